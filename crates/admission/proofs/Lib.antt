@@ -1,0 +1,3 @@
+-- Laws of admission, which the kinds use.
+pub mod AdmissionLaws
+pub mod ListLaws

@@ -1,0 +1,6 @@
+// What admission answers. `numberOf` in specs/ gives the paper's number of each case.
+pub enum Admission {
+    Admitted,
+    RangeLeft,
+    DivisorZero,
+}

@@ -1,0 +1,125 @@
+-- What a signed local holds. A signed local holds bits, so each operation of the code reads its operands back, `toZ w (ofZ w x)`, and a goal nests these as deep as the code.
+-- `Held w x y` says that the code's number x, which still has these readings in it, is y, and that y fits: there is one rule for each operation, which takes the operands' facts and that the result fits.
+-- `h .fits-code` answers the need of the operation itself, and `held h ∙ ..` a `returns`. Assumes nothing.
+use mathlib.Core.Path.{_≡_, refl, sym, ap, ap₂, _∙_, subst}
+use mathlib.Core.Bool.{Bool, true, false, not}
+use lib.Dec.{T, ltb, leb, lt→ltb, nleb→lt}
+use Prim.Native.Nat.{ℕ, zero, suc, _+_, _*_, _-_, _^_, _<_, _≤_}
+use native.Mathlib.Omega.{arith}
+use lib.IntN.{ℤ, pos, negsuc, negℤ, natAbs, _+ℤ_, _-ℤ_, _*ℤ_, +ℤ-idl}
+use lib.Signed.{nonNeg, yes-nonNeg, _≤ℤ_, _<ℤ_, leZ, ltZ, ltZ-no, mag, shrZ, quotZ, remZ, mag-shr, mag-rem}
+use mir.Syntax.{Width}
+use mir.Val.{Fits, SFits, bits, hbits, toZ, ofZ}
+use mir.Facts.{toZ-ofZ, sfits-lit, sfits-widen}
+use mir.ValLaws.{sfits-le, pow-bits}
+use Rattle.whole.proofs.Fit.{fit-abs}
+use Rattle.whole.proofs.Floor.{quot-abs}
+
+-- x, stored and read back
+abbrev pub back : Width → ℤ → ℤ
+back w x = toZ w (ofZ w x)
+
+pub record Held (w : Width) (x y : ℤ) : Type 0 where
+  pub eq : x ≡ y
+  pub fits : SFits w y
+
+-- that the code's own number fits, which the operation asks
+pub fits-code : {w : Width} {x y : ℤ} → Held w x y → SFits w x
+fits-code {w} h = subst (SFits w) (sym (h .eq)) (h .fits)
+
+-- what is read
+pub held : {w : Width} {x y : ℤ} → Held w x y → back w x ≡ y
+held {w} h = ap (back w) (h .eq) ∙ toZ-ofZ (h .fits)
+
+-- a parameter, or a value that a call gave
+pub arg : {w : Width} {x : ℤ} → SFits w x → Held w x x
+arg f = record { eq = refl; fits = f }
+
+-- a literal: `lit (pos 7) tt`
+pub lit : {w : Width} (x : ℤ) → T (ltb (mag x) (2 ^ hbits w)) → Held w x x
+lit x t = arg (sfits-lit t)
+
+-- a call's result, by its `.ok`: `given (c .f .ok)`
+pub given : {w : Width} {x : ℤ} → mag x < 2 ^ hbits w → Held w x x
+given p = arg (record { sfits = p })
+
+-- of which an equation is known
+pub known : {w : Width} {x y : ℤ} → x ≡ y → SFits w y → Held w x y
+known e f = record { eq = e; fits = f }
+
+-- a copy, or a cast to another signed width
+pub cast : {w w′ : Width} {x y : ℤ} → Held w x y → SFits w′ y → Held w′ (back w x) y
+cast h f = record { eq = held h; fits = f }
+
+-- to a wider one: `wider tt h`
+pub wider : {w w′ : Width} {x y : ℤ} → T (leb (hbits w) (hbits w′)) → Held w x y → Held w′ (back w x) y
+wider t h = cast h (sfits-widen t (h .fits))
+
+pub plus : {w : Width} {x y x′ y′ : ℤ} → Held w x y → Held w x′ y′ → SFits w (y +ℤ y′) → Held w (back w x +ℤ back w x′) (y +ℤ y′)
+plus h k f = record { eq = ap₂ _+ℤ_ (held h) (held k); fits = f }
+
+pub minus : {w : Width} {x y x′ y′ : ℤ} → Held w x y → Held w x′ y′ → SFits w (y -ℤ y′) → Held w (back w x -ℤ back w x′) (y -ℤ y′)
+minus h k f = record { eq = ap₂ _-ℤ_ (held h) (held k); fits = f }
+
+pub times : {w : Width} {x y x′ y′ : ℤ} → Held w x y → Held w x′ y′ → SFits w (y *ℤ y′) → Held w (back w x *ℤ back w x′) (y *ℤ y′)
+times h k f = record { eq = ap₂ _*ℤ_ (held h) (held k); fits = f }
+
+pub shr : {w : Width} {x y : ℤ} (m : ℕ) → Held w x y → Held w (shrZ (back w x) m) (shrZ y m)
+shr {w} {x} {y} m h = record { eq = ap (λ (z : ℤ). shrZ z m) (held h); fits = sfits-le (mag-shr y m) (h .fits) }
+
+pub quot : {w : Width} {x y x′ y′ : ℤ} → Held w x y → Held w x′ y′ → SFits w (quotZ y y′) → Held w (quotZ (back w x) (back w x′)) (quotZ y y′)
+quot h k f = record { eq = ap₂ quotZ (held h) (held k); fits = f }
+
+pub rem : {w : Width} {x y x′ y′ : ℤ} → Held w x y → Held w x′ y′ → Held w (remZ (back w x) (back w x′)) (remZ y y′)
+rem {w} {x} {y} {x′} {y′} h k = record { eq = ap₂ remZ (held h) (held k); fits = sfits-le (mag-rem y y′) (h .fits) }
+
+-- ---- what a division asks besides: that the divisor's bits are not 0, and that the quotient fits
+ofZ-pos : (w : Width) (z : ℤ) → SFits w z → 0 < natAbs z → 0 < ofZ w z
+ofZ-pos w (pos n) f h = h
+ofZ-pos w (negsuc n) f h = omega (arith, f .sfits, pow-bits w)
+
+pub divisor : {w : Width} {x y : ℤ} → Held w x y → 0 < natAbs y → 0 < ofZ w x
+divisor {w} {x} {y} h p = subst (λ (z : ℤ). 0 < ofZ w z) (sym (h .eq)) (ofZ-pos w y (h .fits) p)
+
+pub quot-fits : {w : Width} (y d : ℤ) → natAbs y < 2 ^ hbits w → SFits w (quotZ y d)
+quot-fits {w} y d h = fit-abs (omega (arith, quot-abs y d))
+
+is-true : (b : Bool) → b ≡ true → T b
+is-true b e = subst T (sym e) tt
+
+is-false : (b : Bool) → b ≡ false → T (not b)
+is-false b e = subst (λ (x : Bool). T (not x)) (sym e) tt
+
+-- ---- tests: a flag of the code's numbers is the order of the numbers held
+pub tested-lt : {w : Width} {x y x′ y′ : ℤ} → Held w x y → Held w x′ y′ → ltZ (back w x) (back w x′) ≡ true → y <ℤ y′
+tested-lt {w} {x} {y} {x′} {y′} h k e = record { lt = is-true (ltZ y y′) (sym (ap₂ ltZ (held h) (held k)) ∙ e) }
+
+pub tested-ge : {w : Width} {x y x′ y′ : ℤ} → Held w x y → Held w x′ y′ → ltZ (back w x) (back w x′) ≡ false → y′ ≤ℤ y
+tested-ge {w} {x} {y} {x′} {y′} h k e = ltZ-no (is-false (ltZ y y′) (sym (ap₂ ltZ (held h) (held k)) ∙ e))
+
+pub tested-le : {w : Width} {x y x′ y′ : ℤ} → Held w x y → Held w x′ y′ → leZ (back w x) (back w x′) ≡ true → y ≤ℤ y′
+tested-le {w} {x} {y} {x′} {y′} h k e = record { le = is-true (leZ y y′) (sym (ap₂ leZ (held h) (held k)) ∙ e) }
+
+-- ---- a cast to an unsigned width
+pub held-nat : {w : Width} {x y : ℤ} → Held w x y → natAbs (back w x) ≡ natAbs y
+held-nat h = ap natAbs (held h)
+
+pub cast-nat : {w w′ : Width} {x y : ℤ} → Held w x y → pos 0 ≤ℤ y → natAbs y < 2 ^ bits w′ → T (nonNeg (back w x)) × Fits w′ (natAbs (back w x))
+cast-nat {w} {w′} {x} {y} h p f = (subst (λ (z : ℤ). T (nonNeg z)) (sym (held h)) (yes-nonNeg p), record { fits = subst (λ (k : ℕ). k < 2 ^ bits w′) (sym (held-nat h)) f })
+
+-- `-x` is `0 - x`
+pub negated : {w : Width} {x y : ℤ} → Held w x y → SFits w (negℤ y) → Held w (pos 0 -ℤ back w x) (negℤ y)
+negated h f = record { eq = ap (λ (z : ℤ). pos 0 -ℤ z) (held h) ∙ +ℤ-idl _; fits = f }
+
+-- `x == y` compares bits
+pub same-bits : {w : Width} {x y x′ y′ : ℤ} → Held w x y → Held w x′ y′ → ofZ w x ≡ ofZ w x′ → y ≡ y′
+same-bits {w} h k e = sym (held h) ∙ ap (toZ w) e ∙ held k
+
+pub tested-gt : {w : Width} {x y x′ y′ : ℤ} → Held w x y → Held w x′ y′ → leZ (back w x) (back w x′) ≡ false → y′ <ℤ y
+tested-gt {w} {x} {y} {x′} {y′} h k e = leZ-no y y′ (is-false (leZ y y′) (sym (ap₂ leZ (held h) (held k)) ∙ e))
+  where
+    leZ-no : (a b : ℤ) → T (not (leZ a b)) → b <ℤ a
+    leZ-no (pos a) (pos b) t = record { lt = lt→ltb b a (nleb→lt a b t) }
+    leZ-no (pos a) (negsuc b) t = record { lt = tt }
+    leZ-no (negsuc a) (pos b) t = absurd t
+    leZ-no (negsuc a) (negsuc b) t = record { lt = lt→ltb a b (nleb→lt b a t) }

@@ -1,0 +1,9 @@
+-- The laws of the whole numbers, lowest first.
+pub mod Diff
+pub mod Ring
+pub mod Order
+pub mod Floor
+pub mod Fit
+pub mod Held
+pub mod Linear
+pub mod Poly

@@ -1,0 +1,1 @@
+// Laws of the whole numbers, in proofs/. No code.

@@ -1,0 +1,5 @@
+-- Laws of the operations on words, which other crates use.
+pub mod RoundedLaws
+pub mod WordLaws
+pub mod RootLaws
+pub mod HeronLaws

@@ -1,0 +1,45 @@
+-- The laws of the root: its two inequalities, that they determine it, and that it is the largest.
+use mathlib.Core.Path.{_≡_, refl}
+use mathlib.Core.Bool.{Bool, true, false, cond}
+use Prim.Native.Nat.{ℕ, zero, suc, _+_, _*_, _/_, _<_, _≤_}
+use native.Mathlib.Nat.{mul-le-mul, div-add-mod, mod-lt}
+use native.Mathlib.Decide.{decLe}
+use native.Mathlib.Omega.{arith}
+use lib.Dec.{leb}
+use borrow.Author.Tests.{leb-true, leb-false}
+use Rattle.word.specs.Root.{RootOf, rootIn, rootOf}
+
+pub square-lt : (a b : ℕ) → a * a < b * b → a < b
+square-lt a b h = by (decLe b a)
+  where
+    by : Dec (b ≤ a) → a < b
+    by (yes f) = absurd (omega (arith, mul-le-mul f f))
+    by (no f) = omega arith
+
+pub root-one : (v r q : ℕ) → RootOf v r → RootOf v q → r ≡ q
+root-one v r q f g = omega (arith, square-lt r (q + 1) (omega (arith, f .low, g .high)), square-lt q (r + 1) (omega (arith, g .low, f .high)))
+
+digit-is : (b : Bool) (v r d : ℕ) → leb ((r + r + 1) * (r + r + 1)) v ≡ b → 4 * d ≤ v → v < 4 * d + 4 → RootOf d r → RootOf v (cond b (r + r + 1) (r + r))
+digit-is true v r d e f g h = record { low = leb-true ((r + r + 1) * (r + r + 1)) v e; high = omega (arith, h .high) }
+digit-is false v r d e f g h = record { low = omega (arith, h .low); high = leb-false ((r + r + 1) * (r + r + 1)) v e }
+
+four : (n : ℕ) → (4 * (n / 4) ≤ n) × (n < 4 * (n / 4) + 4)
+four n =
+    let h : 0 < 4 = omega arith in
+    (omega (arith, div-add-mod n 4), omega (arith, div-add-mod n 4, mod-lt n h))
+
+root-in : (k v : ℕ) → v ≤ k → RootOf v (rootIn k v)
+unfolding rootIn
+root-in zero v h = let e : v ≡ 0 = omega arith in record { low = omega arith; high = omega arith }
+root-in (suc k) zero h = record { low = omega arith; high = omega arith }
+root-in (suc k) (suc n) h = digit-is (leb ((rootIn k (suc n / 4) + rootIn k (suc n / 4) + 1) * (rootIn k (suc n / 4) + rootIn k (suc n / 4) + 1)) (suc n)) (suc n) (rootIn k (suc n / 4)) (suc n / 4) refl (four (suc n) .0) (four (suc n) .1) (root-in k (suc n / 4) (omega (arith, four (suc n))))
+
+pub root-of : (v : ℕ) → RootOf v (rootOf v)
+root-of v = root-in v v (omega arith)
+
+pub root-is : (v r : ℕ) → r * r ≤ v → v < (r + 1) * (r + 1) → r ≡ rootOf v
+root-is v r f g = root-one v r (rootOf v) (record { low = f; high = g }) (root-of v)
+
+-- it is the largest
+pub root-largest : (v q : ℕ) → q * q ≤ v → q ≤ rootOf v
+root-largest v q h = omega (arith, square-lt q (rootOf v + 1) (omega (arith, root-of v .high)))

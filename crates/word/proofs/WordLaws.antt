@@ -1,0 +1,71 @@
+-- The laws of product, quotient and their bounds, over the binary places. Everything above this crate uses these.
+use mathlib.Core.Path.{_≡_, refl, sym, ap, _∙_}
+use native.Mathlib.Omega.{arith}
+use native.Mathlib.Nat.{mul-le-mul, mul-le-mul-left}
+use Prim.Native.Nat.{ℕ, zero, suc, _+_, _*_, _^_, _<_, _≤_}
+use lib.Pow.{pow-pos}
+use lib.Signed.{_≤ℤ_, _<ℤ_, clashℤ}
+use lib.IntN.{ℤ, pos, negsuc, negℤ, natAbs, _-ℤ_, _*ℤ_, zero-*ℤ}
+use Rattle.whole.proofs.Diff.{v, n, _⊗_, _⊝_, ⊖_, size}
+use Rattle.whole.proofs.Order.{pos-le, abs-mul, abs-neg}
+use Rattle.word.specs.Rounded.{rounded, roundedUp}
+use Rattle.word.specs.Words.{Word, NotZero, unit, signed, productOf, quotientOf, boundProduct, boundQuotient}
+use Rattle.word.proofs.RoundedLaws.{rounded-near, rounded-size, rounded-exact, up-above, up-least, up-mono}
+
+pub unit-pos : (s : ℕ) → 0 < unit s
+unit-pos s = pow-pos s
+
+-- ---- product
+pub product-near : (s : ℕ) (a b : ℤ) → 2 * natAbs (productOf s a b *ℤ pos (unit s) -ℤ a *ℤ b) ≤ unit s
+product-near s a b = rounded-near (a *ℤ b) (unit s) (unit-pos s)
+
+product-size : (s : ℕ) (a b : ℤ) → natAbs (productOf s a b) ≤ boundProduct s (natAbs a) (natAbs b)
+product-size s a b = rw (← abs-mul a b) (rounded-size (a *ℤ b) (unit s) (unit-pos s))
+
+pub product-zero : (s : ℕ) (b : ℤ) → productOf s (pos 0) b ≡ pos 0
+product-zero s b = ap (λ (z : ℤ). rounded z (unit s)) (zero-*ℤ b ∙ sym (zero-*ℤ (pos (unit s)))) ∙ rounded-exact (pos 0) (unit s) (unit-pos s)
+
+-- a bound product grows with its factors
+pub bound-mono : (s a b a′ b′ : ℕ) → a ≤ a′ → b ≤ b′ → boundProduct s a b ≤ boundProduct s a′ b′
+bound-mono s a b a′ b′ f g = up-mono (a * b) (a′ * b′) (unit s) (unit-pos s) (mul-le-mul f g)
+
+pub product-within : (s : ℕ) (a b : ℤ) (A B : ℕ) → natAbs a ≤ A → natAbs b ≤ B → natAbs (productOf s a b) ≤ boundProduct s A B
+product-within s a b A B f g = omega (arith, product-size s a b, bound-mono s (natAbs a) (natAbs b) A B f g)
+
+-- ---- quotient
+pub signed-neg : (d z : ℤ) → d <ℤ pos 0 → signed d z ≡ negℤ z
+signed-neg (pos k) z h = absurd (clashℤ h (pos-le (omega arith)))
+signed-neg (negsuc k) z h = refl
+
+pub signed-pos : (d z : ℤ) → pos 0 ≤ℤ d → signed d z ≡ z
+signed-pos (pos k) z h = refl
+signed-pos (negsuc k) z h = absurd (h .le)
+
+signed-abs : (d z : ℤ) → natAbs (signed d z) ≡ natAbs z
+signed-abs (pos k) z = refl
+signed-abs (negsuc k) z = abs-neg z
+
+near-signed : (d q m : ℤ) → natAbs (q *ℤ d -ℤ m) ≡ natAbs (q *ℤ pos (natAbs d) -ℤ signed d m)
+near-signed (pos k) q m = refl
+near-signed (negsuc k) q m = omega (arith, size (v q ⊗ v (negsuc k) ⊝ v m), size (v q ⊗ n (suc k) ⊝ ⊖ v m))
+
+-- the quotient times d is within half of |d| of a·2^s, whatever the signs
+pub quotient-near : (s : ℕ) (a d : ℤ) → NotZero d → 2 * natAbs (quotientOf s a d *ℤ d -ℤ a *ℤ pos (unit s)) ≤ natAbs d
+quotient-near s a d h = omega (arith, near-signed d (quotientOf s a d) (a *ℤ pos (unit s)), rounded-near (signed d (a *ℤ pos (unit s))) (natAbs d) h)
+
+quotient-size : (s : ℕ) (a d : ℤ) → NotZero d → natAbs (quotientOf s a d) ≤ boundQuotient s (natAbs a) (natAbs d)
+quotient-size s a d h = rw (← e) (rounded-size (signed d (a *ℤ pos (unit s))) (natAbs d) h)
+  where
+    e : natAbs (signed d (a *ℤ pos (unit s))) ≡ natAbs a * unit s
+    e = signed-abs d (a *ℤ pos (unit s)) ∙ abs-mul a (pos (unit s))
+
+-- a bound quotient grows with the dividend and falls with the divisor
+quotient-mono : (s a a′ d d′ : ℕ) → a ≤ a′ → d′ ≤ d → 0 < d′ → boundQuotient s a d ≤ boundQuotient s a′ d′
+quotient-mono s a a′ d d′ f g h =
+    let q = boundQuotient s a′ d′ in
+    let e = up-above (a′ * unit s) d′ h in
+    let k : q * d′ ≤ q * d = mul-le-mul-left q g in
+    up-least (a * unit s) d q (omega arith) (omega (arith, mul-le-mul-left (unit s) f))
+
+pub quotient-within : (s : ℕ) (a d : ℤ) (A D : ℕ) → 0 < D → natAbs a ≤ A → D ≤ natAbs d → natAbs (quotientOf s a d) ≤ boundQuotient s A D
+quotient-within s a d A D h f g = omega (arith, quotient-size s a d (omega arith), quotient-mono s (natAbs a) A (natAbs d) D f g h)

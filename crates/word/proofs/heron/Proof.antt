@@ -1,0 +1,120 @@
+-- `word::heron` meets its contract. The invariant: `w` is above 0, its size leaves room for the sum, and the root is not above it.
+use mathlib.Core.Path.{_≡_, sym, ap, _∙_, subst}
+use Prim.Native.Nat.{ℕ, zero, suc, _+_, _-_, _*_, _/_, _%_, _^_, _<_, _≤_}
+use native.Mathlib.Nat.{one-mul, mod-eq-of-lt, div-add-mod, div-le-self}
+use native.Mathlib.Decide.{decLe}
+use native.Mathlib.Omega.{arith}
+use lib.Count.{leadingZeros, leading-le, leading-length}
+use lib.Pow.{pow-lt, pow-pos, pow-mono}
+use Rattle.word.specs.Root.{rootOf}
+use Rattle.word.proofs.RootLaws.{root-is}
+use Rattle.word.proofs.HeronLaws.{heron, not-below, ended, start-above}
+use Rattle.word.proofs.heron.Statement.{statement}
+use Rattle.word.proofs.heron.Tie as tie
+
+abbrev Above : ℕ → ℕ → Type 0
+Above v w = (0 < w) × (w ≤ 2147483648) × (v < (w + 1) * (w + 1))
+
+abbrev Inv-loop : tie.InvT-loop
+Inv-loop v b w₀ w = Above v w
+
+abbrev μ-loop : tie.MeasureT-loop
+μ-loop v b w₀ w = w
+
+-- ---- the start
+abbrev digits : ℕ → ℕ
+digits v = 64 - leadingZeros 64 v
+
+abbrev start : ℕ → ℕ
+start v = 2 ^ ((digits v + 1) / 2)
+
+-- v has no more than 60 digits, and its digits bound it
+few : (v : ℕ) → v < 2 ^ 60 → (v < 2 ^ digits v) × (digits v ≤ 60)
+few v h =
+    let wide : v < 2 ^ 64 = omega arith in
+    let l = leading-length 64 v wide in
+    let e : digits v ≡ l .0 = omega (arith, l .1) in
+    (subst (λ (m : ℕ). v < 2 ^ m) (sym e) (l .2), subst (λ (m : ℕ). m ≤ 60) (sym e) (by (l .0) (l .3) (decLe 61 (l .0))))
+  where
+    by : (m : ℕ) → 2 ^ m ≤ 2 * v + 1 → Dec (61 ≤ m) → m ≤ 60
+    by m f (yes g) = absurd (omega (arith, pow-mono {i = 61} {j = m} g))
+    by m f (no g) = omega arith
+
+exponent-most : (v : ℕ) → v < 2 ^ 60 → (digits v + 1) / 2 ≤ 30
+exponent-most v h = omega (arith, few v h .1, div-add-mod (digits v + 1) 2)
+
+start-is : (v : ℕ) → v < 2 ^ 60 → 1 * start v % 2 ^ 64 ≡ start v
+start-is v h = mod-eq-of-lt (rw one-mul (pow-lt {j = 64} (omega (arith, exponent-most v h)))) ∙ one-mul (start v)
+
+first : (v : ℕ) → v < 2 ^ 60 → Above v (start v)
+first v h = (
+  pow-pos ((digits v + 1) / 2),
+  omega (arith, pow-mono {i = (digits v + 1) / 2} {j = 31} (omega (arith, exponent-most v h))),
+  omega (arith, start-above v (digits v) (few v h .0)),
+)
+
+-- ---- a turn, and the end
+next : (v w : ℕ) → 0 < v → Above v w → heron v w < w → Above v (heron v w)
+next v w p i h = (positive (heron v w) (not-below v w (i .0)), omega (arith, i .1), not-below v w (i .0))
+  where
+    positive : (u : ℕ) → v < (u + 1) * (u + 1) → 0 < u
+    positive zero f = absurd (omega arith)
+    positive (suc u) f = omega arith
+
+-- ---- the needs
+returns : tie.Need-returns Inv-loop μ-loop
+returns c = root-is (c .before .args .v) 0 (omega arith) (omega (arith, c .if1 .taken))
+
+sub-b : tie.Need-sub-b Inv-loop μ-loop
+sub-b c = leading-le 64 (c .before .args .v)
+
+add-w : tie.Need-add-w Inv-loop μ-loop
+add-w c = record { fits = omega arith }
+
+cast-w : tie.Need-cast-w Inv-loop μ-loop
+cast-w c = record { fits = omega (arith, div-le-self (digits (c .before .args .v) + 1) 2) }
+
+shl-w : tie.Need-shl-w Inv-loop μ-loop
+shl-w c = omega (arith, div-add-mod (digits (c .before .args .v) + 1) 2)
+
+loop-holds : tie.Need-loop-holds Inv-loop μ-loop
+loop-holds c =
+    let d = c .before in
+    subst (λ (w : ℕ). Above (d .args .v) w) (sym (start-is (d .args .v) (d .pre))) (first (d .args .v) (d .pre))
+
+div-next : tie.Need-div-next Inv-loop μ-loop
+div-next c = c .loop .inv .0
+
+add-next : tie.Need-add-next Inv-loop μ-loop
+add-next c = record { fits = omega (arith, c .loop .inv .1, c .before .before .pre, div-le-self (c .before .before .args .v) (c .loop .w)) }
+
+loop-less : tie.Need-loop-less Inv-loop μ-loop
+loop-less c = c .if2 .left
+
+loop-again : tie.Need-loop-again Inv-loop μ-loop
+loop-again c =
+    let d = c .before .before .before in
+    next (d .args .v) (c .before .loop .w) (omega (arith, c .before .before .if1 .left)) (c .before .loop .inv) (c .if2 .left)
+
+returns-2 : tie.Need-returns-2 Inv-loop μ-loop
+returns-2 c =
+    let v = c .before .before .before .args .v in
+    root-is v (c .before .loop .w) (ended v (c .before .loop .w) (c .if2 .taken)) (c .before .loop .inv .2)
+
+pub heron-spec : {M : Type 1} → statement M
+heron-spec =
+    tie.close
+    (tie.spec
+    Inv-loop
+    μ-loop
+    returns
+    sub-b
+    add-w
+    cast-w
+    shl-w
+    loop-holds
+    div-next
+    add-next
+    loop-less
+    loop-again
+    returns-2)

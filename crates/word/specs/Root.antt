@@ -1,0 +1,46 @@
+-- The root of a word: the largest whole r with r² not above x·2^s.
+use mathlib.Core.Path.{_≡_, refl}
+use mathlib.Core.Bool.{cond}
+use Prim.Native.Nat.{ℕ, zero, suc, _+_, _*_, _/_, _<_, _≤_}
+use lib.Dec.{leb}
+use lib.IntN.{ℤ, pos, natAbs}
+use Rattle.word.specs.Words.{unit}
+
+-- r is the largest whole number whose square is not above v
+pub record RootOf (v r : ℕ) : Type 0 where
+  pub low : r * r ≤ v
+  pub high : v < (r + 1) * (r + 1)
+
+-- the root of v, given the root r of v / 4: one binary digit more
+abbrev pub digitMore : ℕ → ℕ → ℕ
+digitMore v r = cond (leb ((r + r + 1) * (r + r + 1)) v) (r + r + 1) (r + r)
+
+-- digit by digit, at most k of them
+unfoldable pub rootIn : ℕ → ℕ → ℕ
+rootIn zero v = 0
+rootIn (suc k) zero = 0
+rootIn (suc k) (suc n) = digitMore (suc n) (rootIn k (suc n / 4))
+
+-- v has no more than v digits. That it is `RootOf v`, and the only one, is `root-of` and `root-is` of proofs/RootLaws.antt
+abbrev pub rootOf : ℕ → ℕ
+rootOf v = rootIn v v
+
+abbrev pub rootWord : ℕ → ℤ → ℤ
+rootWord s x = pos (rootOf (natAbs x * unit s))
+
+-- ---- worked examples: the root of 8 and of 9; of one step and of two, at 24 places
+below-a-square : rootOf 8 ≡ 2
+unfolding rootIn
+below-a-square = refl
+
+at-a-square : rootOf 9 ≡ 3
+unfolding rootIn
+at-a-square = refl
+
+of-a-step : rootWord 24 (pos 1) ≡ pos 4096
+unfolding rootIn
+of-a-step = refl
+
+of-two : rootWord 24 (pos 33554432) ≡ pos 23726566
+unfolding rootIn
+of-two = refl

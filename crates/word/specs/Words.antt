@@ -1,0 +1,87 @@
+-- Words, and what the operations on them give. A word w at s binary places stands for w / 2^s; document 01 has s = 24.
+use mathlib.Core.Path.{_≡_, refl}
+use Prim.Native.Nat.{ℕ, suc, _*_, _^_, _<_, _≤_}
+use lib.IntN.{ℤ, pos, negsuc, negℤ, natAbs, _*ℤ_}
+use lib.Signed.{_≤ℤ_}
+use Rattle.word.specs.Rounded.{rounded, roundedUp}
+
+-- M, the largest word
+abbrev pub largest : ℕ
+largest = 2147483647
+
+-- a whole number from -M to M
+abbrev pub Word : ℤ → Type 0
+Word z = natAbs z ≤ 2147483647
+
+abbrev pub NotZero : ℤ → Type 0
+NotZero z = 0 < natAbs z
+
+-- the binary places that a board may have
+pub record Scale (s : ℕ) : Type 0 where
+  pub least : 16 ≤ s
+  pub most : s ≤ 28
+
+-- one, in steps
+abbrev pub unit : ℕ → ℕ
+unit s = 2 ^ s
+
+-- a·b / 2^s, rounded
+abbrev pub productOf : ℕ → ℤ → ℤ → ℤ
+productOf s a b = rounded (a *ℤ b) (unit s)
+
+-- z with the sign of d times its own
+abbrev pub signed : ℤ → ℤ → ℤ
+signed (pos k) z = z
+signed (negsuc k) z = negℤ z
+
+-- a·2^s / d, rounded; the divisor's sign goes to the numerator
+abbrev pub quotientOf : ℕ → ℤ → ℤ → ℤ
+quotientOf s a d = rounded (signed d (a *ℤ pos (unit s))) (natAbs d)
+
+-- the same of numbers not below 0, rounded up
+abbrev pub boundProduct : ℕ → ℕ → ℕ → ℕ
+boundProduct s a b = roundedUp (a * b) (unit s)
+
+abbrev pub boundQuotient : ℕ → ℕ → ℕ → ℕ
+boundQuotient s a d = roundedUp (a * unit s) d
+
+-- ---- what the functions ask of their callers
+abbrev pub Factors : ℕ → ℤ → ℤ → Type 0
+Factors s a b = Scale s × Word a × Word b
+
+abbrev pub Division : ℕ → ℤ → ℤ → Type 0
+Division s a d = Scale s × Word a × Word d × NotZero d
+
+abbrev pub Rootable : ℕ → ℤ → Type 0
+Rootable s x = Scale s × Word x × pos 0 ≤ℤ x
+
+-- ---- worked examples: a half of one step, of each sign, is a tie
+half-a-step : productOf 24 (pos 1) (pos 8388608) ≡ pos 1
+unfolding rounded
+half-a-step = refl
+
+half-a-step-below : productOf 24 (pos 1) (negsuc 8388607) ≡ pos 0
+unfolding rounded
+half-a-step-below = refl
+
+-- a third, and a third by a negative divisor; -1 step by 2 is a tie
+third : quotientOf 24 (pos 16777216) (pos 50331648) ≡ pos 5592405
+unfolding rounded
+third = refl
+
+third-below : quotientOf 24 (pos 16777216) (negsuc 50331647) ≡ negsuc 5592404
+unfolding rounded
+third-below = refl
+
+half-below : quotientOf 24 (pos 1) (negsuc 33554431) ≡ pos 0
+unfolding rounded
+half-below = refl
+
+-- a bound goes up
+a-step-more : boundProduct 24 1 1 ≡ 1
+unfolding roundedUp
+a-step-more = refl
+
+a-third-more : boundQuotient 24 16777216 50331648 ≡ 5592406
+unfolding roundedUp
+a-third-more = refl
