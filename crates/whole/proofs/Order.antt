@@ -63,3 +63,7 @@ abs-le a k h g = near (v a) k (omega (arith, below-out (v a) (n k) g, below-out 
 pub nonneg-dn : {a : ℤ} → pos 0 ≤ℤ a → N a ≡ 0
 nonneg-dn {a = pos k} h = refl
 nonneg-dn {a = negsuc k} h = absurd (h .le)
+
+-- what a sum keeps of a's size
+pub abs-least : (a b : ℤ) → natAbs a ≤ natAbs (a +ℤ b) + natAbs b
+abs-least a b = omega (arith, size (v a ⊕ v b), size (v a), abs-is b)

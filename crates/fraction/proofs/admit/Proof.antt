@@ -1,0 +1,42 @@
+-- `fraction::admit` meets its contract.
+use borrow.Author.Needs.{needs}
+use mathlib.Core.Path.{_≡_, sym, ap, _∙_}
+use Prim.Native.Nat.{ℕ}
+use Rattle.admission.proofs.AdmissionLaws.{ranged-yes, ranged-no}
+use Rattle.fraction.specs.Admission.{admitInner}
+use Rattle.fraction.proofs.AdmissionSteps.{mode-zero, mode-more}
+use Rattle.fraction.proofs.admit.Statement.{statement}
+use Rattle.fraction.proofs.admit.Tie as tie
+
+returns : tie.Need-returns
+returns c =
+    let a = c .before .before .args in
+    c .admit-inner .ensures ∙ mode-zero (a .s) (a .most) (a .mode) (a .words .now) (a .k) (c .before .if1 .taken)
+
+returns-2 : tie.Need-returns-2
+returns-2 c =
+    let b = c .before in
+    let a = b .before .before .args in
+    sym (mode-more (a .s) (a .most) (a .mode) (a .words .now) (a .k) (b .bound-product .result) (b .before .if1 .left) (b .bound-product .ensures) ∙ ranged-yes (b .bound-product .result) _ (c .if2 .taken))
+
+returns-3 : tie.Need-returns-3
+returns-3 c =
+    let b = c .before .before .before in
+    let a = b .before .before .args in
+    let square = b .bound-product .result in
+    c .admit-inner2 .ensures
+    ∙ ap (λ (v : ℕ). admitInner (a .s) v square (a .words .now) (a .k)) (c .before .first-bound .ensures)
+    ∙ sym (mode-more (a .s) (a .most) (a .mode) (a .words .now) (a .k) square (b .before .if1 .left) (b .bound-product .ensures) ∙ ranged-no square _ (c .before .before .if2 .left))
+
+pub admit-spec : {M : Type 1} → statement M
+admit-spec =
+    tie.close
+    (tie.spec
+    (λ c κs. search needs)
+    returns
+    (λ c κs. search needs)
+    returns-2
+    (λ c. search needs)
+    (λ c κs. search needs)
+    (λ c κs. search needs)
+    returns-3)

@@ -1,0 +1,68 @@
+-- Admission of a continued fraction. A is the larger of |lo| and |hi|; `first` and `rest` bound |v1| and the other |v|'s.
+use mathlib.Core.Path.{_≡_, refl}
+use mathlib.Core.Bool.{cond}
+use mathlib.Core.List.{List, [], _∷_}
+use Prim.Native.Nat.{ℕ, zero, suc, _+_, _-_}
+use lib.Dec.{ltb}
+use lib.IntN.{ℤ, pos, negsuc, natAbs}
+use Rattle.word.specs.Rounded.{roundedUp}
+use Rattle.word.specs.Words.{largest, boundProduct, boundQuotient}
+use Rattle.admission.specs.Admission.{numberOf, ranged, apart}
+use Rattle.admission.specs.declared.Admission.{Admission}
+use Rattle.admission.specs.declared.Admission.the-variants.{Admitted}
+use Rattle.fraction.specs.Fraction.{bAt, aAfter, at, firstOf}
+use Rattle.fraction.specs.declared.TermBound.{TermBound}
+use Rattle.fraction.specs.declared.TermBound.the-variants.{Least, Beyond}
+
+-- G is the bound product of |a| and the bound of v, Q the bound quotient of G by L
+abbrev pub gBound : ℕ → ℤ → ℕ → ℕ
+gBound s a v = boundProduct s (natAbs a) v
+
+abbrev pub qBound : ℕ → ℤ → ℕ → ℕ → ℕ
+qBound s a v L = boundQuotient s (gBound s a v) L
+
+-- at depth j, L is the least size of what stands there: below 1 gives 8. Then G above M gives 7, |b_(j-1)| + Q above M gives 7,
+-- and the next L is |b_(j-1)| - Q (a difference of naturals is 0 where it would be negative: both are below 1).
+-- Outermost, at depth 0, nothing is divided by what stands there, so its L is not tested
+unfoldable pub admitFrom : ℕ → ℕ → ℕ → List ℤ → ℕ → ℕ → Admission
+admitFrom s first rest ws zero L = Admitted
+admitFrom s first rest ws (suc i) L =
+    apart L
+    (ranged (gBound s (aAfter ws i) (at first rest i))
+    (ranged (natAbs (bAt ws i) + qBound s (aAfter ws i) (at first rest i) L)
+    (admitFrom s first rest ws i (natAbs (bAt ws i) - qBound s (aAfter ws i) (at first rest i) L))))
+
+-- innermost: L = |b_k|
+abbrev pub admitInner : ℕ → ℕ → ℕ → List ℤ → ℕ → Admission
+admitInner s first rest ws k = admitFrom s first rest ws k (natAbs (bAt ws k))
+
+-- in modes 1 and 2 first S, the bound product of A with itself: above M gives 7
+abbrev pub fractionAdmission : ℕ → ℕ → ℕ → List ℤ → ℕ → Admission
+fractionAdmission s A zero ws k = admitInner s A A ws k
+fractionAdmission s A (suc m) ws k =
+    ranged (boundProduct s A A)
+    (admitInner s (firstOf (suc m) A (boundProduct s A A)) (boundProduct s A A) ws k)
+
+-- one term of that walk: the next L, or that the range may be left
+abbrev pub termBound : ℕ → ℤ → ℤ → ℕ → ℕ → TermBound
+termBound s a b v L =
+    cond (ltb largest (gBound s a v)) Beyond
+    (cond (ltb largest (natAbs b + qBound s a v L)) Beyond
+    (Least (natAbs b - qBound s a v L)))
+
+-- ---- worked examples: 1/(1 - x/3) up to x = 1; up to 2, where 1 - 2/3 is still apart from 0; up to 3, where it is not
+abbrev thirds : List ℤ
+thirds = pos 0 ∷ pos 16777216 ∷ pos 16777216 ∷ negsuc 16777215 ∷ pos 50331648 ∷ []
+
+to-two : numberOf (fractionAdmission 24 33554432 0 thirds 2) ≡ 0
+unfolding admitFrom roundedUp
+to-two = refl
+
+to-three : numberOf (fractionAdmission 24 50331648 0 thirds 2) ≡ 8
+unfolding admitFrom roundedUp
+to-three = refl
+
+-- the square of 12 is no word, though mode 2 with depth 1 never uses it
+square-left : numberOf (fractionAdmission 24 201326592 2 (pos 0 ∷ pos 1 ∷ pos 16777216 ∷ []) 1) ≡ 7
+unfolding admitFrom roundedUp
+square-left = refl

@@ -1,0 +1,4 @@
+-- Continued fractions.
+pub mod Fraction
+pub mod Admission
+pub mod Ready

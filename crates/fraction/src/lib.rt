@@ -1,0 +1,145 @@
+// Continued fractions b0 + a1·v1/(b1 + a2·v2/(b2 + ..)) over words, stored as b0, a1, b1, a2, ..
+ghost use mathlib.Core.Path.{_≡_};
+ghost use Rattle.word.specs.Words.{Word, Scale, productOf};
+ghost use Rattle.fraction.specs.Fraction.{at, firstOf, restOf, nextOf, outward, fractionOf};
+ghost use Rattle.fraction.specs.Ready.{StepReady, OutwardReady, FractionReady, TermAsked, AdmissionAsked};
+ghost use Rattle.fraction.specs.Admission.{termBound, admitInner, fractionAdmission};
+use admission::Admission;
+
+// v_(i + 1) or its bound: the first one, or one of the rest.
+fn factor(i: usize, first: i32, rest: i32) -> i32
+    ensures { λ r. ⌜ r ≡ at first rest i ⌝ }
+{
+    if i == 0 { first } else { rest }
+}
+
+fn factor_bound(i: usize, first: u32, rest: u32) -> u32
+    ensures { λ r. ⌜ r ≡ at first rest i ⌝ }
+{
+    if i == 0 { first } else { rest }
+}
+
+// b plus the quotient of (the product of a and v) by t.
+fn next(a: i32, b: i32, v: i32, t: i32, s: u32) -> i32
+    requires { ⌜ StepReady s a b v t ⌝ }
+    ensures { λ r. ⌜ r ≡ nextOf s a b v t ⌝ }
+{
+    let g = word::product(a, v, s) as i32;
+    ((b as i64) + word::quotient(g, t, s)) as i32
+}
+
+// From t, the word at depth j, outward to the answer. The remaining depth j falls by one.
+fn outward(words: &[i32], j: usize, t: i32, first: i32, rest: i32, s: u32) -> i32
+    requires { ⌜ OutwardReady s first rest (now words) j t ⌝ }
+    ensures { λ r. ⌜ r ≡ outward s first rest (now (words .entry)) j t ⌝ }
+{
+    if j == 0 {
+        return t;
+    }
+    let i = j - 1;
+    let u = next(words[i + i + 1], words[i + i], factor(i, first, rest), t, s);
+    outward(words, i, u, first, rest, s)
+}
+
+// v1 of x and its square q.
+fn first_of(mode: u32, x: i32, q: i32) -> i32
+    ensures { λ r. ⌜ r ≡ firstOf mode x q ⌝ }
+{
+    if mode == 1 { q } else { x }
+}
+
+// The other v's: x, or its square.
+fn rest_of(mode: u32, x: i32, s: u32) -> i32
+    requires { ⌜ Scale s × Word x × Word (restOf mode x (productOf s x x)) ⌝ }
+    ensures { λ r. ⌜ r ≡ restOf mode x (productOf s x x) ⌝ }
+{
+    if mode == 0 {
+        return x;
+    }
+    word::product(x, x, s) as i32
+}
+
+// The fraction of depth k at x.
+pub fn answer(words: &[i32], k: usize, mode: u32, x: i32, s: u32) -> i32
+    requires { ⌜ FractionReady s mode (now words) k x ⌝ }
+    ensures { λ r. ⌜ r ≡ fractionOf s mode (now (words .entry)) k x ⌝ }
+{
+    let rest = rest_of(mode, x, s);
+    outward(words, k, words[k + k], first_of(mode, x, rest), rest, s)
+}
+
+// What the bounds of one term leave: the least size of what stands there (0: it may reach 0), or that the range may be left.
+enum TermBound {
+    Least(u32),
+    Beyond,
+}
+
+// The bounds of b + a·v/d, where |v| is at most `v` and |d| at least l.
+fn term_bound(a: i32, b: i32, v: u32, l: u32, s: u32) -> TermBound
+    requires { ⌜ TermAsked s a b l ⌝ }
+    ensures { λ r. ⌜ r ≡ termBound s a b v l ⌝ }
+{
+    let g = word::bound_product(word::magnitude(a), v, s);
+    if 2147483647 < g {
+        return TermBound::Beyond;
+    }
+    let q = word::bound_quotient(g as u32, l, s);
+    let c = word::magnitude(b) as u64;
+    if 2147483647 < c + q {
+        return TermBound::Beyond;
+    }
+    if c <= q {
+        return TermBound::Least(0);
+    }
+    TermBound::Least((c - q) as u32)
+}
+
+// From the innermost term outward: `first` bounds |v_1|, `rest` the others.
+fn admit_inner(words: &[i32], k: usize, first: u32, rest: u32, s: u32) -> Admission
+    requires { ⌜ AdmissionAsked s (now words) k ⌝ }
+    ensures { λ r. ⌜ r ≡ admitInner s first rest (now (words .entry)) k ⌝ }
+{
+    let mut j = k;
+    let mut l = word::magnitude(words[k + k]);
+    while j > 0 {
+        if l == 0 {
+            return Admission::DivisorZero;
+        }
+        j -= 1;
+        let bound = term_bound(
+            words[j + j + 1],
+            words[j + j],
+            factor_bound(j, first, rest),
+            l,
+            s,
+        );
+        let TermBound::Least(least) = bound else {
+            return Admission::RangeLeft;
+        };
+        l = least;
+    }
+    Admission::Admitted
+}
+
+// The bound of v1, by the bounds of x and of its square.
+fn first_bound(mode: u32, most: u32, square: u32) -> u32
+    ensures { λ r. ⌜ r ≡ firstOf mode most square ⌝ }
+{
+    if mode == 1 { square } else { most }
+}
+
+// `most` is the larger of |lo| and |hi|.
+pub fn admit(words: &[i32], k: usize, mode: u32, most: u32, s: u32) -> Admission
+    requires { ⌜ AdmissionAsked s (now words) k ⌝ }
+    ensures { λ r. ⌜ r ≡ fractionAdmission s most mode (now (words .entry)) k ⌝ }
+{
+    if mode == 0 {
+        return admit_inner(words, k, most, most, s);
+    }
+    let square = word::bound_product(most, most, s);
+    if 2147483647 < square {
+        return Admission::RangeLeft;
+    }
+    let rest = square as u32;
+    admit_inner(words, k, first_bound(mode, most, rest), rest, s)
+}

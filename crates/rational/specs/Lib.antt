@@ -1,0 +1,2 @@
+-- Rational formulas.
+pub mod Rational
