@@ -1,27 +1,18 @@
 -- `word::root` meets its contract: what is handed to `heron` does not wrap, and its root is a word.
 use borrow.Author.Needs.{needs}
-use mathlib.Core.Path.{_≡_, sym, ap, _∙_, subst}
-use Prim.Native.Nat.{ℕ, _*_, _%_, _^_, _<_, _≤_}
-use native.Mathlib.Nat.{mod-eq-of-lt, mul-le-mul}
+use mathlib.Core.Path.{_≡_, ap, _∙_}
+use Prim.Native.Nat.{ℕ, _*_, _%_, _^_, _<_}
+use native.Mathlib.Nat.{mod-eq-of-lt}
 use native.Mathlib.Omega.{arith}
 use lib.IntN.{ℤ, pos, natAbs}
-use lib.Pow.{pow-mono}
 use mir.Syntax.{w32, w64}
 use Rattle.whole.proofs.Diff.{n}
 use Rattle.whole.proofs.Fit.{fit}
 use Rattle.whole.proofs.Held.{back, held, held-nat, cast-nat, arg}
 use Rattle.word.specs.Root.{rootOf}
-use Rattle.word.proofs.RootLaws.{root-of, square-lt}
+use Rattle.word.proofs.RootLaws.{scaled-most, root-most}
 use Rattle.word.proofs.root.Statement.{statement}
 use Rattle.word.proofs.root.Tie as tie
-
-scaled-most : (x s : ℕ) → x ≤ 2147483647 → s ≤ 28 → x * 2 ^ s < 2 ^ 60
-scaled-most x s f g =
-    let u : 2 ^ s ≤ 268435456 = omega (arith, pow-mono {i = s} {j = 28} g) in
-    omega (arith, mul-le-mul f u)
-
-root-most : (v : ℕ) → v < 2 ^ 60 → rootOf v < 2 ^ 30
-root-most v h = square-lt (rootOf v) (2 ^ 30) (omega (arith, root-of v .low))
 
 module _ (c : tie.Start) where
   abbrev x : ℕ

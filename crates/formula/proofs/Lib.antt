@@ -1,0 +1,7 @@
+-- Laws of formulas. `StaysInRange`, `Distance` and `CheckedByHand` hold promises.
+pub mod IntervalLaws
+pub mod SoundLaws
+pub mod StaysInRange
+pub mod ReadyLaws
+pub mod Distance
+pub mod CheckedByHand

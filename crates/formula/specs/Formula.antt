@@ -1,0 +1,112 @@
+-- A formula: its shape (kind, counts, mode), its interval lo..hi and its stored words. The binary places are s.
+use mathlib.Core.Path.{_≡_}
+use mathlib.Core.Bool.{cond}
+use mathlib.Core.List.{List, [], _∷_}
+use Prim.Native.Nat.{ℕ, _+_, _≤_}
+use lib.Dec.{ltb}
+use lib.IntN.{ℤ, pos, natAbs}
+use lib.Signed.{_≤ℤ_}
+use lib.ListN.{length, take, drop}
+use Rattle.word.specs.Words.{Word, Scale}
+use Rattle.word.specs.Root.{rootWord}
+use Rattle.admission.specs.Lists.{Words}
+use Rattle.admission.specs.declared.Admission.{Admission}
+use Rattle.admission.specs.declared.Admission.the-variants.{Admitted, RangeLeft}
+use Rattle.polynomial.specs.Polynomial.{horner, polynomialNumbers, polynomialAdmission}
+use Rattle.rational.specs.Rational.{rationalOf, rationalNumbers, rationalDivisors, rationalAdmission}
+use Rattle.fraction.specs.Fraction.{fractionOf, fractionNumbers, fractionDivisors}
+use Rattle.fraction.specs.Admission.{fractionAdmission}
+use Rattle.formula.specs.declared.Kind.{Kind}
+use Rattle.formula.specs.declared.Kind.the-variants.{Polynomial, Rational, Fraction, Root, NoFormula}
+use Rattle.formula.specs.declared.Shape.{Shape}
+
+-- ---- the answer at x, by the kind
+abbrev pub answerBy : Kind → ℕ → ℕ → ℕ → ℕ → List ℤ → ℤ → ℤ
+answerBy Polynomial s p q mode ws x = horner s (take p ws) x
+answerBy Rational s p q mode ws x = rationalOf s (take p ws) (take q (drop p ws)) x
+answerBy Fraction s p q mode ws x = fractionOf s mode ws p x
+answerBy Root s p q mode ws x = rootWord s x
+answerBy NoFormula s p q mode ws x = pos 0
+
+abbrev pub answerOf : ℕ → Shape → List ℤ → ℤ → ℤ
+answerOf s h ws x = answerBy (h .kind) s (h .p) (h .q) (h .mode) ws x
+
+-- the numbers on the way to it: each rounded product, quotient and sum; of a root, the answer itself
+abbrev pub numbersBy : Kind → ℕ → ℕ → ℕ → ℕ → List ℤ → ℤ → List ℤ
+numbersBy Polynomial s p q mode ws x = polynomialNumbers s (take p ws) x
+numbersBy Rational s p q mode ws x = rationalNumbers s (take p ws) (take q (drop p ws)) x
+numbersBy Fraction s p q mode ws x = fractionNumbers s mode ws p x
+numbersBy Root s p q mode ws x = rootWord s x ∷ []
+numbersBy NoFormula s p q mode ws x = []
+
+abbrev pub numbersOf : ℕ → Shape → List ℤ → ℤ → List ℤ
+numbersOf s h ws x = numbersBy (h .kind) s (h .p) (h .q) (h .mode) ws x
+
+-- the divisors on the way
+abbrev pub divisorsBy : Kind → ℕ → ℕ → ℕ → ℕ → List ℤ → ℤ → List ℤ
+divisorsBy Polynomial s p q mode ws x = []
+divisorsBy Rational s p q mode ws x = rationalDivisors s (take q (drop p ws)) x
+divisorsBy Fraction s p q mode ws x = fractionDivisors s mode ws p x
+divisorsBy Root s p q mode ws x = []
+divisorsBy NoFormula s p q mode ws x = []
+
+abbrev pub divisorsOf : ℕ → Shape → List ℤ → ℤ → List ℤ
+divisorsOf s h ws x = divisorsBy (h .kind) s (h .p) (h .q) (h .mode) ws x
+
+-- ---- admission. A is the larger of |lo| and |hi|
+abbrev pub mostOf : ℤ → ℤ → ℕ
+mostOf lo hi = cond (ltb (natAbs lo) (natAbs hi)) (natAbs hi) (natAbs lo)
+
+-- a root is always admitted; what is no formula never is
+abbrev pub admissionBy : Kind → ℕ → ℕ → ℕ → ℕ → ℕ → List ℤ → Admission
+admissionBy Polynomial s A p q mode ws = polynomialAdmission s A (take p ws)
+admissionBy Rational s A p q mode ws = rationalAdmission s A (take p ws) (take q (drop p ws))
+admissionBy Fraction s A p q mode ws = fractionAdmission s A mode ws p
+admissionBy Root s A p q mode ws = Admitted
+admissionBy NoFormula s A p q mode ws = RangeLeft
+
+abbrev pub admissionOf : ℕ → Shape → ℤ → ℤ → List ℤ → Admission
+admissionOf s h lo hi ws = admissionBy (h .kind) s (mostOf lo hi) (h .p) (h .q) (h .mode) ws
+
+-- ---- the stored values, as refusals 2 and 6 leave them. The counts of each kind in their ranges, and a mode that there is
+abbrev pub Counted : Kind → ℕ → ℕ → ℕ → Type 0
+Counted Polynomial p q mode = (1 ≤ p) × (p ≤ 16)
+Counted Rational p q mode = (1 ≤ p) × (p ≤ 12) × (1 ≤ q) × (q ≤ 12)
+Counted Fraction p q mode = (1 ≤ p) × (p ≤ 12) × (mode ≤ 2)
+Counted Root p q mode = Unit
+Counted NoFormula p q mode = ⊥
+
+-- how many words a kind has
+abbrev pub wordCount : Kind → ℕ → ℕ → ℕ
+wordCount Polynomial p q = p
+wordCount Rational p q = p + q
+wordCount Fraction p q = p + p + 1
+wordCount Root p q = 0
+wordCount NoFormula p q = 0
+
+-- a root's interval is not below 0
+abbrev pub RootInterval : Kind → ℤ → Type 0
+RootInterval Polynomial lo = Unit
+RootInterval Rational lo = Unit
+RootInterval Fraction lo = Unit
+RootInterval Root lo = pos 0 ≤ℤ lo
+RootInterval NoFormula lo = Unit
+
+pub record Sound (h : Shape) (lo hi : ℤ) (ws : List ℤ) : Type 0 where
+  pub counts : Counted (h .kind) (h .p) (h .q) (h .mode)
+  pub room : wordCount (h .kind) (h .p) (h .q) ≤ length ws
+  pub words : Words ws
+  pub low : Word lo
+  pub high : Word hi
+  pub order : lo ≤ℤ hi
+  pub rooted : RootInterval (h .kind) lo
+
+-- ---- what the answer asks of its callers: a sound, admitted formula, and an argument in its interval
+pub record Answerable (s : ℕ) (h : Shape) (ws : List ℤ) (x : ℤ) : Type 0 where
+  pub scale : Scale s
+  pub lo : ℤ
+  pub hi : ℤ
+  pub sound : Sound h lo hi ws
+  pub admitted : admissionOf s h lo hi ws ≡ Admitted
+  pub above : lo ≤ℤ x
+  pub below : x ≤ℤ hi
