@@ -1,10 +1,9 @@
 -- An answerable argument is what its kind's own function asks for.
-use mathlib.Core.Path.{_≡_, sym, subst}
+use mathlib.Core.Path.{_≡_, subst}
 use mathlib.Core.List.{List}
-use Prim.Native.Nat.{ℕ, _+_, _<_, _≤_}
+use Prim.Native.Nat.{ℕ}
 use native.Mathlib.Omega.{arith}
-use lib.IntN.{ℤ, pos}
-use lib.Signed.{_≤ℤ_}
+use lib.IntN.{ℤ}
 use lib.ListN.{take, drop}
 use lib.Seq.{length-take-le}
 use Rattle.whole.proofs.Order.{≤ℤ-trans}

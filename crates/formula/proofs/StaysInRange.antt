@@ -1,9 +1,9 @@
 -- Demand 3, the range: of a sound, admitted formula, at every argument of its interval, each number on the way is a word and no divisor is 0.
 use mathlib.Core.Path.{_≡_}
 use mathlib.Core.List.{List}
-use Prim.Native.Nat.{ℕ, _+_, _<_, _≤_}
+use Prim.Native.Nat.{ℕ, _≤_}
 use native.Mathlib.Omega.{arith}
-use lib.IntN.{ℤ, pos, natAbs}
+use lib.IntN.{ℤ, natAbs}
 use lib.Signed.{_≤ℤ_}
 use lib.ListN.{length, take, drop}
 use Rattle.whole.proofs.Order.{≤ℤ-trans}
@@ -11,7 +11,6 @@ use Rattle.word.specs.Words.{Word, NotZero, Scale}
 use Rattle.word.proofs.RootLaws.{root-word}
 use Rattle.admission.specs.Lists.{All}
 use Rattle.admission.specs.declared.Admission.the-variants.{Admitted}
-use Rattle.admission.proofs.AdmissionLaws.{left-not}
 use Rattle.polynomial.proofs.StaysInRange.{polynomial-stays}
 use Rattle.rational.proofs.StaysInRange.{rational-stays}
 use Rattle.fraction.proofs.StaysInRange.{fraction-stays}

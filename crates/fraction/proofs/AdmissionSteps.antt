@@ -8,13 +8,13 @@ use native.Mathlib.Omega.{arith}
 use lib.Dec.{ltb}
 use lib.IntN.{ℤ, natAbs}
 use lib.Pow.{pow-mono}
-use borrow.Author.Tests.{lt-ltb, le-ltb, ltb-true, ltb-false}
+use borrow.Author.Tests.{lt-ltb, le-ltb}
 use Rattle.word.specs.Words.{Scale, unit, boundProduct, boundQuotient}
 use Rattle.word.proofs.RoundedLaws.{up-least}
 use Rattle.admission.specs.Admission.{ranged}
 use Rattle.admission.specs.declared.Admission.{Admission}
 use Rattle.admission.specs.declared.Admission.the-variants.{Admitted, RangeLeft, DivisorZero}
-use Rattle.admission.proofs.AdmissionLaws.{ranged-yes, ranged-no, apart-yes, apart-no}
+use Rattle.admission.proofs.AdmissionLaws.{apart-yes, apart-no}
 use Rattle.fraction.specs.Fraction.{bAt, aAfter, at, firstOf}
 use Rattle.fraction.specs.Admission.{gBound, qBound, admitFrom, admitInner, fractionAdmission, termBound}
 use Rattle.fraction.specs.declared.TermBound.{TermBound}

@@ -1,5 +1,5 @@
 -- The walk outward gives the printed form b0 + a1·v1/(b1 + a2·v2/(b2 + ..)), each quotient and product rounded.
-use mathlib.Core.Path.{_≡_, refl, ap, _∙_}
+use mathlib.Core.Path.{_≡_, ap, _∙_}
 use mathlib.Core.List.{List}
 use Prim.Native.Nat.{ℕ, zero, suc, _+_}
 use native.Mathlib.Omega.{arith}

@@ -1,9 +1,9 @@
 -- Demand 3 for continued fractions: of an admitted one, at every argument of the interval, each number on the way is a word and no divisor is 0.
-use mathlib.Core.Path.{_≡_, refl, subst}
+use mathlib.Core.Path.{_≡_}
 use mathlib.Core.List.{List}
-use Prim.Native.Nat.{ℕ, zero, suc, _+_, _-_, _<_, _≤_}
+use Prim.Native.Nat.{ℕ, zero, suc, _+_, _-_, _≤_}
 use native.Mathlib.Omega.{arith}
-use lib.IntN.{ℤ, pos, natAbs}
+use lib.IntN.{ℤ, natAbs}
 use Rattle.whole.proofs.Order.{abs-add, abs-least}
 use Rattle.word.specs.Words.{Word, NotZero, productOf, quotientOf, boundProduct}
 use Rattle.word.proofs.WordLaws.{product-within, quotient-within}
@@ -11,7 +11,7 @@ use Rattle.admission.specs.Lists.{All}
 use Rattle.admission.specs.declared.Admission.the-variants.{Admitted}
 use Rattle.admission.proofs.AdmissionLaws.{ranged-out, apart-out}
 use Rattle.fraction.specs.Fraction.{bAt, aAfter, at, firstOf, restOf, nextOf, outwardNumbers, outwardDivisors, fractionNumbers, fractionDivisors}
-use Rattle.fraction.specs.Admission.{gBound, qBound, admitFrom, admitInner, fractionAdmission}
+use Rattle.fraction.specs.Admission.{gBound, qBound, admitFrom, fractionAdmission}
 use Rattle.fraction.specs.Ready.{OutwardReady, FractionReady}
 use Rattle.fraction.proofs.WalkLaws.{at-size}
 

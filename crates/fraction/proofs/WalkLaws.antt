@@ -1,11 +1,10 @@
 -- The walk outward, step by step, as the code meets it.
 use mathlib.Core.Path.{_≡_, refl, sym, ap, ap₂, _∙_, subst}
 use mathlib.Core.List.{List}
-use Prim.Native.Nat.{ℕ, zero, suc, _+_, _<_, _≤_}
+use Prim.Native.Nat.{ℕ, zero, suc, _+_, _≤_}
 use native.Mathlib.Omega.{arith}
 use lib.IntN.{ℤ, natAbs}
-use Rattle.word.specs.Words.{Word, NotZero}
-use Rattle.admission.specs.Lists.{All}
+use Rattle.word.specs.Words.{Word}
 use Rattle.fraction.specs.Fraction.{bAt, aAfter, at, firstOf, restOf, nextOf, outward, outwardNumbers, outwardDivisors}
 use Rattle.fraction.specs.Ready.{StepReady, OutwardReady}
 

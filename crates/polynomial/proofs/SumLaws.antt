@@ -7,12 +7,14 @@ use native.Mathlib.Omega.{arith}
 use lib.IntN.{ℤ, pos, natAbs, _+ℤ_, _*ℤ_, pow, one, *ℤ-zero}
 use lib.ListN.{length, getD}
 use lib.Pow.{pow-add}
-use Rattle.whole.proofs.Diff.{v, n, _⊗_, same}
-use Rattle.whole.proofs.Ring.{mul-add as mulℤ-add}
+use Rattle.whole.proofs.Diff.{v, n, _⊕_, _⊗_, same}
 use Rattle.word.specs.Words.{unit}
 use Rattle.polynomial.specs.Distance.{exact, spread, sumBelow, sumBelowℤ, exactSum, spreadSum}
 
 -- ---- sums
+mulℤ-add : (a b c : ℤ) → a *ℤ (b +ℤ c) ≡ a *ℤ b +ℤ a *ℤ c
+mulℤ-add a b c = same (v a ⊗ (v b ⊕ v c)) (v a ⊗ v b ⊕ v a ⊗ v c) (omega arith)
+
 sum-same : (m : ℕ) (f g : ℕ → ℕ) → ((j : ℕ) → f j ≡ g j) → sumBelow m f ≡ sumBelow m g
 unfolding sumBelow
 sum-same zero f g e = refl

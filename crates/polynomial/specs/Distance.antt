@@ -2,7 +2,7 @@
 use mathlib.Core.Path.{_≡_, refl}
 use mathlib.Core.List.{List, [], _∷_}
 use Prim.Native.Nat.{ℕ, zero, suc, _+_, _*_, _-_, _^_}
-use lib.IntN.{ℤ, pos, natAbs, _+ℤ_, _*ℤ_, pow, one}
+use lib.IntN.{ℤ, pos, natAbs, _+ℤ_, _*ℤ_, pow}
 use lib.ListN.{length, getD}
 use Rattle.word.specs.Words.{unit}
 

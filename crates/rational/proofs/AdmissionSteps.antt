@@ -5,14 +5,13 @@ use Prim.Native.Nat.{ℕ, _+_, _-_, _<_, _≤_}
 use native.Mathlib.Omega.{arith}
 use lib.IntN.{ℤ, pos, natAbs}
 use lib.ListN.{length, getD, drop}
-use lib.Dec.{ltb}
 use native.Mathlib.Decide.{decLe}
 use Rattle.word.specs.Words.{boundProduct, boundQuotient}
 use Rattle.admission.specs.Admission.{ranged, apart}
 use Rattle.admission.specs.declared.Admission.{Admission}
 use Rattle.admission.specs.declared.Admission.the-variants.{Admitted, RangeLeft, DivisorZero}
 use Rattle.admission.proofs.AdmissionLaws.{ranged-yes, ranged-no, apart-yes, apart-no}
-use Rattle.polynomial.specs.Polynomial.{bound, bounded, boundNext, boundOf, whenWithin}
+use Rattle.polynomial.specs.Polynomial.{bounded, boundNext, boundOf, whenWithin}
 use Rattle.polynomial.specs.declared.Bounding.{Bounding}
 use Rattle.polynomial.specs.declared.Bounding.the-variants.{Within, Beyond}
 use Rattle.polynomial.proofs.BoundLaws.{within-is, bound-step, bound-turn, bounded-yes, bounded-no}

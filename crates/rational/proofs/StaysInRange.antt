@@ -1,6 +1,6 @@
 -- Demand 3 for rational formulas: of an admitted one, at every argument of the interval, each number on the way is a word and the divisor is not 0.
 use mathlib.Core.Path.{_≡_, ap}
-use mathlib.Core.List.{List, [], _∷_, _++_}
+use mathlib.Core.List.{List}
 use Prim.Native.Nat.{ℕ, _<_, _≤_}
 use native.Mathlib.Omega.{arith}
 use lib.IntN.{ℤ, pos, natAbs, _+ℤ_}
@@ -8,12 +8,12 @@ use lib.ListN.{length, getD, drop}
 use Rattle.whole.proofs.Order.{abs-least}
 use Rattle.word.specs.Words.{Word, NotZero, productOf, boundQuotient}
 use Rattle.word.proofs.WordLaws.{quotient-within}
-use Rattle.admission.specs.Admission.{ranged, apart}
+use Rattle.admission.specs.Admission.{apart}
 use Rattle.admission.specs.Lists.{All}
 use Rattle.admission.specs.declared.Admission.the-variants.{Admitted}
 use Rattle.admission.proofs.AdmissionLaws.{ranged-out, apart-out}
 use Rattle.admission.proofs.ListLaws.{all-append}
-use Rattle.polynomial.specs.Polynomial.{horner, polynomialNumbers, bound, boundOf, whenWithin, InRange}
+use Rattle.polynomial.specs.Polynomial.{horner, polynomialNumbers, boundOf, InRange}
 use Rattle.polynomial.proofs.WalkLaws.{horner-drop, running-size, product-bound, in-range-less}
 use Rattle.polynomial.proofs.BoundLaws.{within-is, within-range, within-out}
 use Rattle.polynomial.proofs.StaysInRange.{numbers-in-range}

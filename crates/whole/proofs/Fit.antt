@@ -1,12 +1,11 @@
--- When a whole number fits a signed width, by its parts. Assumes nothing.
-use mathlib.Core.Path.{_≡_, refl, sym, ap, _∙_}
-use Prim.Native.Nat.{ℕ, zero, suc, _+_, _*_, _-_, _^_, _<_, _≤_}
+-- When a whole number fits a signed width, by its parts.
+use Prim.Native.Nat.{ℕ, _+_, _^_, _<_, _≤_}
 use native.Mathlib.Omega.{arith}
-use lib.IntN.{ℤ, pos, negsuc, negℤ, natAbs, _+ℤ_, _-ℤ_, _*ℤ_}
+use lib.IntN.{ℤ, pos, negsuc, natAbs}
 use lib.Signed.{mag}
-use mir.Syntax.{Width, w32, w64}
+use mir.Syntax.{Width}
 use mir.Val.{SFits, hbits}
-use Rattle.whole.proofs.Diff.{Diff, P, N, v, n, _⊕_, _⊗_, ⊖_, _⊝_, same, same-out, abs-is, size, near, near-out}
+use Rattle.whole.proofs.Diff.{Diff, P, N, v, abs-is}
 
 mag-lt : (z : ℤ) (H : ℕ) → P z < H + N z → N z ≤ P z + H → mag z < H
 mag-lt (pos a) H f g = omega arith

@@ -1,12 +1,12 @@
--- Division of a whole number by a natural: rounded down (`shrZ`), and toward zero (`quotZ`, `remZ`). Assumes nothing.
-use mathlib.Core.Path.{_≡_, refl, sym, ap, _∙_}
-use Prim.Native.Nat.{ℕ, zero, suc, _+_, _*_, _-_, _/_, _%_, _<_, _≤_}
+-- Division of a whole number by a natural: rounded down (`shrZ`), and towards zero (`quotZ`, `remZ`).
+use mathlib.Core.Path.{_≡_, refl, ap}
+use Prim.Native.Nat.{ℕ, zero, suc, _+_, _*_, _/_, _%_, _<_, _≤_}
 use native.Mathlib.Nat.{div-add-mod, mod-lt, lt-of-mul-lt-mul-left, div-le-self}
 use native.Mathlib.Omega.{arith}
-use lib.IntN.{ℤ, pos, negsuc, negℤ, natAbs, _+ℤ_, _-ℤ_, _*ℤ_}
-use lib.Signed.{shrZ, quotZ, remZ, _≤ℤ_}
-use Rattle.whole.proofs.Diff.{Diff, P, N, v, n, _⊕_, _⊗_, ⊖_, _⊝_, same, same-out, abs-is, size, near, near-out}
-use Rattle.whole.proofs.Order.{abs-neg, pos-le}
+use lib.IntN.{ℤ, pos, negsuc, negℤ, natAbs}
+use lib.Signed.{shrZ, quotZ, remZ}
+use Rattle.whole.proofs.Diff.{P, N, v, same}
+use Rattle.whole.proofs.Order.{abs-neg}
 
 -- q is z / m, rounded down: m · q ≤ z < m · q + m, in the parts
 pub record FloorOf (z : ℤ) (m : ℕ) (q : ℤ) : Type 0 where
@@ -26,7 +26,7 @@ floor-one z m q r f g = same (v q) (v r) (omega (arith, one-way q r f g, one-way
 pub floor-is : (z : ℤ) (m : ℕ) (q : ℤ) → 0 < m → FloorOf z m q → shrZ z m ≡ q
 floor-is z m q h f = floor-one z m (shrZ z m) q (floor-of z m h) f
 
--- toward zero, by a positive divisor: z ≡ q · m + r with |r| < m
+-- towards zero, by a positive divisor: z ≡ q · m + r with |r| < m
 neg-pos-up : (k : ℕ) → P (negℤ (pos k)) ≡ 0
 neg-pos-up zero = refl
 neg-pos-up (suc k) = refl
@@ -54,12 +54,3 @@ quot-abs (pos a) (pos b) = div-le-self a b
 quot-abs (pos a) (negsuc b) = omega (arith, abs-neg (pos (a / suc b)), div-le-self a (suc b))
 quot-abs (negsuc a) (pos b) = omega (arith, abs-neg (pos (suc a / b)), div-le-self (suc a) b)
 quot-abs (negsuc a) (negsuc b) = div-le-self (suc a) (suc b)
-
--- a remainder has the dividend's sign
-pub rem-nonneg : (z d : ℤ) → pos 0 ≤ℤ z → pos 0 ≤ℤ remZ z d
-rem-nonneg (pos a) d h = pos-le (omega arith)
-rem-nonneg (negsuc a) d h = absurd (h .le)
-
-pub shr-abs : (z : ℤ) (m : ℕ) → natAbs (shrZ z m) ≤ natAbs z
-shr-abs (pos a) m = div-le-self a m
-shr-abs (negsuc a) m = omega (arith, div-le-self a m)

@@ -1,10 +1,10 @@
 -- What a signed local holds. A signed local holds bits, so each operation of the code reads its operands back, `toZ w (ofZ w x)`, and a goal nests these as deep as the code.
 -- `Held w x y` says that the code's number x, which still has these readings in it, is y, and that y fits: there is one rule for each operation, which takes the operands' facts and that the result fits.
--- `h .fits-code` answers the need of the operation itself, and `held h ∙ ..` a `returns`. Assumes nothing.
+-- `h .fits-code` answers the need of the operation itself, and `held h ∙ ..` a `returns`.
 use mathlib.Core.Path.{_≡_, refl, sym, ap, ap₂, _∙_, subst}
 use mathlib.Core.Bool.{Bool, true, false, not}
 use lib.Dec.{T, ltb, leb, lt→ltb, nleb→lt}
-use Prim.Native.Nat.{ℕ, zero, suc, _+_, _*_, _-_, _^_, _<_, _≤_}
+use Prim.Native.Nat.{ℕ, _^_, _<_}
 use native.Mathlib.Omega.{arith}
 use lib.IntN.{ℤ, pos, negsuc, negℤ, natAbs, _+ℤ_, _-ℤ_, _*ℤ_, +ℤ-idl}
 use lib.Signed.{nonNeg, yes-nonNeg, _≤ℤ_, _<ℤ_, leZ, ltZ, ltZ-no, mag, shrZ, quotZ, remZ, mag-shr, mag-rem}
@@ -100,6 +100,15 @@ tested-ge {w} {x} {y} {x′} {y′} h k e = ltZ-no (is-false (ltZ y y′) (sym (
 pub tested-le : {w : Width} {x y x′ y′ : ℤ} → Held w x y → Held w x′ y′ → leZ (back w x) (back w x′) ≡ true → y ≤ℤ y′
 tested-le {w} {x} {y} {x′} {y′} h k e = record { le = is-true (leZ y y′) (sym (ap₂ leZ (held h) (held k)) ∙ e) }
 
+pub tested-gt : {w : Width} {x y x′ y′ : ℤ} → Held w x y → Held w x′ y′ → leZ (back w x) (back w x′) ≡ false → y′ <ℤ y
+tested-gt {w} {x} {y} {x′} {y′} h k e = leZ-no y y′ (is-false (leZ y y′) (sym (ap₂ leZ (held h) (held k)) ∙ e))
+  where
+    leZ-no : (a b : ℤ) → T (not (leZ a b)) → b <ℤ a
+    leZ-no (pos a) (pos b) t = record { lt = lt→ltb b a (nleb→lt a b t) }
+    leZ-no (pos a) (negsuc b) t = record { lt = tt }
+    leZ-no (negsuc a) (pos b) t = absurd t
+    leZ-no (negsuc a) (negsuc b) t = record { lt = lt→ltb a b (nleb→lt b a t) }
+
 -- ---- a cast to an unsigned width
 pub held-nat : {w : Width} {x y : ℤ} → Held w x y → natAbs (back w x) ≡ natAbs y
 held-nat h = ap natAbs (held h)
@@ -110,16 +119,3 @@ cast-nat {w} {w′} {x} {y} h p f = (subst (λ (z : ℤ). T (nonNeg z)) (sym (he
 -- `-x` is `0 - x`
 pub negated : {w : Width} {x y : ℤ} → Held w x y → SFits w (negℤ y) → Held w (pos 0 -ℤ back w x) (negℤ y)
 negated h f = record { eq = ap (λ (z : ℤ). pos 0 -ℤ z) (held h) ∙ +ℤ-idl _; fits = f }
-
--- `x == y` compares bits
-pub same-bits : {w : Width} {x y x′ y′ : ℤ} → Held w x y → Held w x′ y′ → ofZ w x ≡ ofZ w x′ → y ≡ y′
-same-bits {w} h k e = sym (held h) ∙ ap (toZ w) e ∙ held k
-
-pub tested-gt : {w : Width} {x y x′ y′ : ℤ} → Held w x y → Held w x′ y′ → leZ (back w x) (back w x′) ≡ false → y′ <ℤ y
-tested-gt {w} {x} {y} {x′} {y′} h k e = leZ-no y y′ (is-false (leZ y y′) (sym (ap₂ leZ (held h) (held k)) ∙ e))
-  where
-    leZ-no : (a b : ℤ) → T (not (leZ a b)) → b <ℤ a
-    leZ-no (pos a) (pos b) t = record { lt = lt→ltb b a (nleb→lt a b t) }
-    leZ-no (pos a) (negsuc b) t = record { lt = tt }
-    leZ-no (negsuc a) (pos b) t = absurd t
-    leZ-no (negsuc a) (negsuc b) t = record { lt = lt→ltb a b (nleb→lt b a t) }

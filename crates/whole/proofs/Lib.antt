@@ -6,4 +6,3 @@ pub mod Floor
 pub mod Fit
 pub mod Held
 pub mod Linear
-pub mod Poly

@@ -1,5 +1,5 @@
 -- Heron's rule: it falls while it is above the root, it never passes below, and where it stops falling it is the root.
-use mathlib.Core.Path.{_≡_, subst}
+use mathlib.Core.Path.{subst}
 use Prim.Native.Nat.{ℕ, zero, suc, _+_, _*_, _/_, _^_, _<_, _≤_}
 use native.Mathlib.Nat.{mul-le-mul-left, div-add-mod, mod-lt, lt-of-mul-lt-mul-left, le-dest}
 use native.Mathlib.Decide.{decLe}

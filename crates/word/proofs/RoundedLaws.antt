@@ -1,13 +1,13 @@
 -- The laws of rounding: how near, how large, exact where it divides, where a tie goes, and that these determine the result.
 -- A change of the tie rule changes `rounded`, `rounded-tie`, `rounded-determined` and `rounded-by`; the other laws keep their statements.
-use mathlib.Core.Path.{_≡_, refl, sym, ap}
+use mathlib.Core.Path.{_≡_, refl, ap}
 use native.Mathlib.Decide.{decLe}
 use Prim.Native.Nat.{ℕ, _+_, _*_, _-_, _/_, _<_, _≤_}
 use native.Mathlib.Nat.{div-add-mod, mod-lt, lt-of-mul-lt-mul-left}
 use native.Mathlib.Omega.{arith}
 use lib.IntN.{ℤ, pos, natAbs, _+ℤ_, _-ℤ_, _*ℤ_}
 use lib.Signed.{_≤ℤ_}
-use Rattle.whole.proofs.Diff.{Diff, P, N, v, n, _⊕_, _⊗_, _⊝_, size, near, near-out, abs-is, below, below-out}
+use Rattle.whole.proofs.Diff.{Diff, P, N, v, n, _⊕_, _⊗_, _⊝_, size, near, abs-is, below, below-out}
 use Rattle.whole.proofs.Floor.{floor-of, floor-is}
 use Rattle.word.specs.Rounded.{rounded, roundedUp}
 

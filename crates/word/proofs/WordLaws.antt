@@ -2,14 +2,14 @@
 use mathlib.Core.Path.{_≡_, refl, sym, ap, _∙_}
 use native.Mathlib.Omega.{arith}
 use native.Mathlib.Nat.{mul-le-mul, mul-le-mul-left}
-use Prim.Native.Nat.{ℕ, zero, suc, _+_, _*_, _^_, _<_, _≤_}
+use Prim.Native.Nat.{ℕ, suc, _*_, _<_, _≤_}
 use lib.Pow.{pow-pos}
 use lib.Signed.{_≤ℤ_, _<ℤ_, clashℤ}
 use lib.IntN.{ℤ, pos, negsuc, negℤ, natAbs, _-ℤ_, _*ℤ_, zero-*ℤ}
 use Rattle.whole.proofs.Diff.{v, n, _⊗_, _⊝_, ⊖_, size}
 use Rattle.whole.proofs.Order.{pos-le, abs-mul, abs-neg}
-use Rattle.word.specs.Rounded.{rounded, roundedUp}
-use Rattle.word.specs.Words.{Word, NotZero, unit, signed, productOf, quotientOf, boundProduct, boundQuotient}
+use Rattle.word.specs.Rounded.{rounded}
+use Rattle.word.specs.Words.{NotZero, unit, signed, productOf, quotientOf, boundProduct, boundQuotient}
 use Rattle.word.proofs.RoundedLaws.{rounded-near, rounded-size, rounded-exact, up-above, up-least, up-mono}
 
 pub unit-pos : (s : ℕ) → 0 < unit s

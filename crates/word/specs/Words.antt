@@ -1,6 +1,6 @@
 -- Words, and what the operations on them give. A word w at s binary places stands for w / 2^s; document 01 has s = 24.
 use mathlib.Core.Path.{_≡_, refl}
-use Prim.Native.Nat.{ℕ, suc, _*_, _^_, _<_, _≤_}
+use Prim.Native.Nat.{ℕ, _*_, _^_, _<_, _≤_}
 use lib.IntN.{ℤ, pos, negsuc, negℤ, natAbs, _*ℤ_}
 use lib.Signed.{_≤ℤ_}
 use Rattle.word.specs.Rounded.{rounded, roundedUp}
@@ -11,7 +11,7 @@ largest = 2147483647
 
 -- a whole number from -M to M
 abbrev pub Word : ℤ → Type 0
-Word z = natAbs z ≤ 2147483647
+Word z = natAbs z ≤ largest
 
 abbrev pub NotZero : ℤ → Type 0
 NotZero z = 0 < natAbs z

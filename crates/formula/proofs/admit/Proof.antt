@@ -1,13 +1,11 @@
 -- `formula::admit` meets its contract: each kind's own admission.
 use borrow.Author.Needs.{needs}
-use mathlib.Core.Path.{_≡_, sym, ap, ap₂, _∙_}
-use Prim.Native.Nat.{ℕ, _+_, _<_, _≤_}
+use mathlib.Core.Path.{_≡_, sym, ap₂, _∙_}
+use Prim.Native.Nat.{ℕ}
 use native.Mathlib.Omega.{arith}
-use lib.IntN.{ℤ}
 use lib.Seq.{length-take-le}
 use Rattle.whole.proofs.Held.{held, arg}
 use Rattle.admission.proofs.ListLaws.{words-take}
-use Rattle.admission.specs.declared.Admission.{Admission}
 use Rattle.formula.specs.Formula.{mostOf, admissionBy, admissionOf}
 use Rattle.formula.specs.declared.Kind.{Kind}
 use Rattle.formula.specs.declared.Kind.the-variants.{Polynomial, Rational, Fraction}

@@ -1,9 +1,7 @@
 -- `formula::answer` meets its contract: each kind's own answer.
 use borrow.Author.Needs.{needs}
-use mathlib.Core.Path.{_≡_, sym, ap, ap₂, _∙_, subst}
-use Prim.Native.Nat.{ℕ, _≤_}
-use native.Mathlib.Omega.{arith}
-use lib.IntN.{ℤ, pos}
+use mathlib.Core.Path.{_≡_, sym, ap₂, _∙_, subst}
+use lib.IntN.{ℤ}
 use lib.ListN.{take, drop}
 use lib.Seq.{length-take-le}
 use mir.Syntax.{w32}

@@ -1,6 +1,6 @@
 -- `fraction::admit` meets its contract.
 use borrow.Author.Needs.{needs}
-use mathlib.Core.Path.{_≡_, sym, ap, _∙_}
+use mathlib.Core.Path.{sym, ap, _∙_}
 use Prim.Native.Nat.{ℕ}
 use Rattle.admission.proofs.AdmissionLaws.{ranged-yes, ranged-no}
 use Rattle.fraction.specs.Admission.{admitInner}

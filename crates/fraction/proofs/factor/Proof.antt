@@ -1,5 +1,5 @@
 -- `fraction::factor` meets its contract.
-use mathlib.Core.Path.{_≡_, sym, _∙_}
+use mathlib.Core.Path.{sym, _∙_}
 use Rattle.whole.proofs.Held.{held, arg}
 use Rattle.fraction.proofs.WalkLaws.{at-first, at-rest}
 use Rattle.fraction.proofs.factor.Statement.{statement}

@@ -1,5 +1,5 @@
 -- `fraction::first_of` meets its contract.
-use mathlib.Core.Path.{_≡_, sym, _∙_}
+use mathlib.Core.Path.{sym, _∙_}
 use Rattle.whole.proofs.Held.{held, arg}
 use Rattle.fraction.proofs.WalkLaws.{first-square, first-itself}
 use Rattle.fraction.proofs.first_of.Statement.{statement}

@@ -1,7 +1,7 @@
 -- `fraction::term_bound` meets its contract: each way out is a step of proofs/AdmissionSteps.antt.
 use borrow.Author.Needs.{needs}
 use mathlib.Core.Path.{_≡_, refl, ap, _∙_}
-use Prim.Native.Nat.{ℕ, _+_, _-_, _<_, _≤_}
+use Prim.Native.Nat.{ℕ}
 use native.Mathlib.Omega.{arith}
 use lib.IntN.{natAbs}
 use Rattle.whole.proofs.Held.{held-nat, arg}

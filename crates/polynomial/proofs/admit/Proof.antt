@@ -1,6 +1,5 @@
 -- `polynomial::admit` meets its contract: the two answers of `bound`.
-use mathlib.Core.Path.{_≡_, sym, ap, _∙_}
-use Prim.Native.Nat.{ℕ}
+use mathlib.Core.Path.{sym, ap, _∙_}
 use Rattle.polynomial.specs.Polynomial.{whenWithin}
 use Rattle.polynomial.specs.declared.Bounding.{Bounding}
 use Rattle.admission.specs.declared.Admission.the-variants.{Admitted}

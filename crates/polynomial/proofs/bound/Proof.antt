@@ -1,18 +1,17 @@
 -- `polynomial::bound` meets its contract. The invariant: b is the bound of the coefficients from i on.
 use borrow.Author.Needs.{needs}
 use mathlib.Core.Path.{_≡_, sym, ap, ap₂, _∙_}
-use Prim.Native.Nat.{ℕ, suc, _+_, _*_, _-_, _<_, _≤_}
+use Prim.Native.Nat.{ℕ, _+_, _*_, _-_, _≤_}
 use native.Mathlib.Nat.{mul-le-mul}
 use native.Mathlib.Omega.{arith}
-use lib.IntN.{ℤ, pos, natAbs}
+use lib.IntN.{pos}
 use lib.ListN.{length, getD, drop}
 use mir.Syntax.{w32}
 use Rattle.whole.proofs.Fit.{fit-abs}
 use Rattle.whole.proofs.Held.{held-nat, arg}
-use Rattle.word.specs.Words.{boundProduct}
 use Rattle.polynomial.specs.Polynomial.{boundOf, bounded}
 use Rattle.polynomial.proofs.BoundLaws.{bound-none, bound-turn, bounded-yes, bounded-no, beyond-first, bound-product-most}
-use Rattle.polynomial.specs.declared.Bounding.the-variants.{Within, Beyond}
+use Rattle.polynomial.specs.declared.Bounding.the-variants.{Within}
 use Rattle.polynomial.proofs.bound.Statement.{statement}
 use Rattle.polynomial.proofs.bound.Tie as tie
 

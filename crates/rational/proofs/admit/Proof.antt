@@ -1,9 +1,9 @@
 -- `rational::admit` meets its contract: the bounds of both polynomials, then `admit_ratio`.
 use borrow.Author.Needs.{needs}
 use mathlib.Core.Path.{_≡_, sym, ap, _∙_}
-use Prim.Native.Nat.{ℕ, _-_, _≤_}
+use Prim.Native.Nat.{ℕ, _-_}
 use native.Mathlib.Omega.{arith}
-use lib.IntN.{ℤ, pos, natAbs}
+use lib.IntN.{pos, natAbs}
 use lib.ListN.{length, getD, take, drop}
 use mir.Syntax.{w32}
 use Rattle.whole.proofs.Fit.{fit-abs}

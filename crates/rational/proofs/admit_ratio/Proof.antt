@@ -1,6 +1,6 @@
 -- `rational::admit_ratio` meets its contract: each way out is a step of proofs/AdmissionSteps.antt.
 use borrow.Author.Needs.{needs}
-use Prim.Native.Nat.{ℕ, _+_, _*_, _<_, _≤_}
+use Prim.Native.Nat.{_*_, _≤_}
 use native.Mathlib.Nat.{mul-le-mul}
 use native.Mathlib.Omega.{arith}
 use Rattle.polynomial.proofs.BoundLaws.{bound-product-most}

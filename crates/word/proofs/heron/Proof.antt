@@ -1,12 +1,11 @@
 -- `word::heron` meets its contract. The invariant: `w` is above 0, its size leaves room for the sum, and the root is not above it.
-use mathlib.Core.Path.{_≡_, sym, ap, _∙_, subst}
+use mathlib.Core.Path.{_≡_, sym, _∙_, subst}
 use Prim.Native.Nat.{ℕ, zero, suc, _+_, _-_, _*_, _/_, _%_, _^_, _<_, _≤_}
 use native.Mathlib.Nat.{one-mul, mod-eq-of-lt, div-add-mod, div-le-self}
 use native.Mathlib.Decide.{decLe}
 use native.Mathlib.Omega.{arith}
 use lib.Count.{leadingZeros, leading-le, leading-length}
 use lib.Pow.{pow-lt, pow-pos, pow-mono}
-use Rattle.word.specs.Root.{rootOf}
 use Rattle.word.proofs.RootLaws.{root-is}
 use Rattle.word.proofs.HeronLaws.{heron, not-below, ended, start-above}
 use Rattle.word.proofs.heron.Statement.{statement}

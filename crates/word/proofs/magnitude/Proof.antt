@@ -1,8 +1,8 @@
 -- `word::magnitude` meets its contract: in 64 bits the negation of any i32 fits.
 use borrow.Author.Needs.{needs}
-use mathlib.Core.Path.{_≡_, _∙_}
+use mathlib.Core.Path.{_∙_}
 use native.Mathlib.Omega.{arith}
-use lib.IntN.{ℤ, pos, negℤ, _-ℤ_}
+use lib.IntN.{pos, negℤ, _-ℤ_}
 use mir.Syntax.{w32, w64}
 use Rattle.whole.proofs.Diff.{v, ⊖_, size}
 use Rattle.whole.proofs.Fit.{fit, fit-out}

@@ -1,4 +1,4 @@
--- `word::nearest` meets its contract: the quotient toward zero of 2 m + d by 2 d, put right by the sign of its remainder, is m / d rounded. Assumes nothing.
+-- `word::nearest` meets its contract: the quotient towards zero of 2 m + d by 2 d, put right by the sign of its remainder, is m / d rounded.
 use borrow.Author.Needs.{needs}
 use mathlib.Core.Path.{_≡_, sym, _∙_}
 use Prim.Native.Nat.{ℕ, _+_, _^_, _<_, _≤_}

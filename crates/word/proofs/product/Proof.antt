@@ -1,4 +1,4 @@
--- `word::product` meets its contract. `held-n` and `held-sum` say what the locals hold; `shifted-is`, that the shift rounds. Assumes nothing.
+-- `word::product` meets its contract. `held-n` and `held-sum` say what the locals hold; `shifted-is`, that the shift rounds.
 use borrow.Author.Needs.{needs}
 use mathlib.Core.Path.{_≡_, sym, ap, _∙_}
 use Prim.Native.Nat.{ℕ, _*_, _-_, _^_, _<_, _≤_}

@@ -1,7 +1,7 @@
--- `word::quotient` meets its contract. The divisor's sign goes to the numerator, and `nearest` divides by its size. Assumes nothing.
+-- `word::quotient` meets its contract. The divisor's sign goes to the numerator, and `nearest` divides by its size.
 use borrow.Author.Needs.{needs}
 use mathlib.Core.Path.{_≡_, sym, ap, ap₂, _∙_}
-use Prim.Native.Nat.{ℕ, _^_, _<_, _≤_}
+use Prim.Native.Nat.{ℕ, _^_, _≤_}
 use native.Mathlib.Nat.{mul-le-mul}
 use native.Mathlib.Omega.{arith}
 use lib.IntN.{ℤ, pos, natAbs, negℤ, _-ℤ_, _*ℤ_}
@@ -14,7 +14,7 @@ use Rattle.whole.proofs.Held.{back, Held, fits-code, held, held-nat, cast-nat, 
 use Rattle.whole.proofs.Linear.{zarith}
 use Rattle.whole.proofs.Order.{abs-mul, abs-neg}
 use Rattle.word.specs.Rounded.{rounded}
-use Rattle.word.specs.Words.{Word, signed}
+use Rattle.word.specs.Words.{signed}
 use Rattle.word.proofs.WordLaws.{signed-neg, signed-pos}
 use Rattle.word.proofs.quotient.Statement.{statement}
 use Rattle.word.proofs.quotient.Tie as tie
