@@ -31,7 +31,7 @@ pub fn bound(words: &[i32], most: u32, s: u32) -> Bounding
 {
     let mut i = words.len();
     let mut b = 0u32;
-    while i > 0 {
+    while 0 < i {
         i -= 1;
         let n = (word::magnitude(words[i]) as u64) + word::bound_product(b, most, s);
         if 2147483647 < n {
