@@ -4,6 +4,7 @@ ghost use Prim.Native.Nat.{_<_, _≤_, _+_};
 ghost use lib.ListN.{length, take, drop};
 ghost use Rattle.word.specs.Words.{Scale};
 ghost use Rattle.admission.specs.Lists.{Words};
+ghost use Rattle.polynomial.specs.Polynomial.{horner, PolynomialReady};
 ghost use Rattle.rational.specs.Rational.{rationalOf, rationalAdmission, RationalReady};
 ghost use Rattle.formula.specs.Formula.{mostOf, Sound, answerOf, admissionOf, Answerable};
 use admission::Admission;
@@ -52,6 +53,13 @@ fn admit_rational(words: &[i32], p: usize, q: usize, most: u32, s: u32) -> Admis
     rational::admit(&words[..p], &words[p..end], most, s)
 }
 
+fn answer_polynomial(words: &[i32], p: usize, x: i32, s: u32) -> i32
+    requires { ⌜ (p ≤ length (now words)) × PolynomialReady s (take p (now words)) x ⌝ }
+    ensures { λ r. ⌜ r ≡ horner s (take p (now (words .entry))) x ⌝ }
+{
+    polynomial::answer(&words[..p], x, s)
+}
+
 fn answer_rational(words: &[i32], p: usize, q: usize, x: i32, s: u32) -> i32
     requires { ⌜ (p + q ≤ length (now words)) × RationalReady s (take p (now words)) (take q (drop p (now words))) x ⌝ }
     ensures { λ r. ⌜ r ≡ rationalOf s (take p (now (words .entry))) (take q (drop p (now (words .entry)))) x ⌝ }
@@ -76,14 +84,14 @@ pub fn admit(shape: Shape, words: &[i32], lo: i32, hi: i32, s: u32) -> Admission
     }
 }
 
-pub fn answer(shape: Shape, words: &[i32], x: i32, s: u32) -> i32
+pub fn answer(shape: Shape, words: &[i32; 32], x: i32, s: u32) -> i32
     requires { ⌜ Answerable s shape (now words) x ⌝ }
     ensures { λ r. ⌜ r ≡ answerOf s shape (now (words .entry)) x ⌝ }
 {
     let kind = shape.kind;
     let p = shape.p as usize;
     match kind {
-        Kind::Polynomial => polynomial::answer(&words[..p], x, s),
+        Kind::Polynomial => answer_polynomial(words, p, x, s),
         Kind::Rational => answer_rational(words, p, shape.q as usize, x, s),
         Kind::Fraction => fraction::answer(words, p, shape.mode as u32, x, s),
         Kind::Root => word::root(x, s),

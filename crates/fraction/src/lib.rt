@@ -29,7 +29,7 @@ fn next(a: i32, b: i32, v: i32, t: i32, s: u32) -> i32
 }
 
 // From t, the word at depth j, outward to the answer. The remaining depth j falls by one.
-fn outward(words: &[i32], j: usize, t: i32, first: i32, rest: i32, s: u32) -> i32
+fn outward(words: &[i32; 32], j: usize, t: i32, first: i32, rest: i32, s: u32) -> i32
     requires { ⌜ OutwardReady s first rest (now words) j t ⌝ }
     ensures { λ r. ⌜ r ≡ outward s first rest (now (words .entry)) j t ⌝ }
 {
@@ -60,7 +60,7 @@ fn rest_of(mode: u32, x: i32, s: u32) -> i32
 }
 
 // The fraction of depth k at x.
-pub fn answer(words: &[i32], k: usize, mode: u32, x: i32, s: u32) -> i32
+pub fn answer(words: &[i32; 32], k: usize, mode: u32, x: i32, s: u32) -> i32
     requires { ⌜ FractionReady s mode (now words) k x ⌝ }
     ensures { λ r. ⌜ r ≡ fractionOf s mode (now (words .entry)) k x ⌝ }
 {

@@ -77,6 +77,7 @@ pub fn bound_quotient(a: u32, d: u32, s: u32) -> u64
 
 // The root of v by Heron's rule, from 2 to the power of half the binary digits, rounded up, which is above the root.
 // It ends when the new number is not below the old: near a square less one the numbers swing between two, and never agree.
+// `less` is w - 1: of the sum `less + 1` the compiler knows that it is not 0, so that it tests no divisor.
 fn heron(v: u64) -> u64
     requires { ⌜ v < 2 ^ 60 ⌝ }
     ensures { λ r. ⌜ r ≡ rootOf v ⌝ }
@@ -85,13 +86,14 @@ fn heron(v: u64) -> u64
         return 0;
     }
     let b = 64 - u64::leading_zeros(v);
-    let mut w = 1u64 << (((b + 1) / 2) as u64);
+    let mut less = (1u64 << (((b + 1) / 2) as u64)) - 1;
     loop {
+        let w = less + 1;
         let next = (w + v / w) / 2;
         if w <= next {
             break w;
         }
-        w = next;
+        less = next - 1;
     }
 }
 

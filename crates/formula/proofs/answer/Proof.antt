@@ -3,7 +3,6 @@ use borrow.Author.Needs.{needs}
 use mathlib.Core.Path.{_≡_, sym, ap₂, _∙_, subst}
 use lib.IntN.{ℤ}
 use lib.ListN.{take, drop}
-use lib.Seq.{length-take-le}
 use mir.Syntax.{w32}
 use Rattle.whole.proofs.Held.{back, held, arg, given}
 use Rattle.word.specs.Words.{Rootable}
@@ -28,27 +27,22 @@ module _ (d : tie.Start) where
       let h = d .args .shape in
       ap₂ (λ (j : Kind) (x : ℤ). answerBy j (d .args .s) (h .p) (h .q) (h .mode) (d .args .words .now) x) (sym e) x-is
 
-slice-aggregate-answer : tie.Need-slice-aggregate-answer
-slice-aggregate-answer c =
+answer-polynomial-requires : tie.Need-answer-polynomial-requires
+answer-polynomial-requires c κs =
     let d = c .before .before .before .before in
     let a = d .args in
-    sym (length-take-le (a .shape .p) (a .words .now) (room-at (a .shape) (d .pre .lo) (d .pre .hi) (a .words .now) (d .pre .sound) Polynomial (c .before .enum-told .given .1)))
-
-answer-requires : tie.Need-answer-requires
-answer-requires c κs =
-    let d = c .before .before .before .before in
-    let a = d .args in
-    subst (PolynomialReady (a .s) (take (a .shape .p) (a .words .now))) (sym (x-is d)) (polynomial-ready (a .s) (a .shape) (a .words .now) (a .x) (d .pre) (c .before .enum-told .given .1))
+    let e = c .before .enum-told .given .1 in
+    (room-at (a .shape) (d .pre .lo) (d .pre .hi) (a .words .now) (d .pre .sound) Polynomial e, subst (PolynomialReady (a .s) (take (a .shape .p) (a .words .now))) (sym (x-is d)) (polynomial-ready (a .s) (a .shape) (a .words .now) (a .x) (d .pre) e))
 
 answer-rational-requires : tie.Need-answer-rational-requires
 answer-rational-requires c κs =
-    let d = c .before .before .before .before in
+    let d = c .before .before .before .before .before in
     let a = d .args in
-    let e = c .before .enum-told2 .given .1 in
+    let e = c .before .before .enum-told2 .given .1 in
     (room-at (a .shape) (d .pre .lo) (d .pre .hi) (a .words .now) (d .pre .sound) Rational e, subst (RationalReady (a .s) (take (a .shape .p) (a .words .now)) (take (a .shape .q) (drop (a .shape .p) (a .words .now)))) (sym (x-is d)) (rational-ready (a .s) (a .shape) (a .words .now) (a .x) (d .pre) e))
 
-answer-requires-2 : tie.Need-answer-requires-2
-answer-requires-2 c κs =
+answer-requires : tie.Need-answer-requires
+answer-requires c κs =
     let d = c .before .before .before .before in
     let a = d .args in
     subst (FractionReady (a .s) (a .shape .mode) (a .words .now) (a .shape .p)) (sym (x-is d)) (fraction-ready (a .s) (a .shape) (a .words .now) (a .x) (d .pre) (c .before .enum-told3 .given .1))
@@ -62,17 +56,17 @@ root-requires c κs =
 returns : tie.Need-returns
 returns c =
     let b = c .before .before in
-    held (given {w = w32} (c .answer .ok)) ∙ c .answer .ensures ∙ whole (b .before .before .before) Polynomial (b .enum-told .given .1)
+    held (given {w = w32} (c .answer-polynomial .ok)) ∙ c .answer-polynomial .ensures ∙ whole (b .before .before .before) Polynomial (b .enum-told .given .1)
 
 returns-2 : tie.Need-returns-2
 returns-2 c =
-    let b = c .before .before in
+    let b = c .before .before .before in
     held (given {w = w32} (c .answer-rational .ok)) ∙ c .answer-rational .ensures ∙ whole (b .before .before .before) Rational (b .enum-told2 .given .1)
 
 returns-3 : tie.Need-returns-3
 returns-3 c =
     let b = c .before .before in
-    held (given {w = w32} (c .answer2 .ok)) ∙ c .answer2 .ensures ∙ whole (b .before .before .before) Fraction (b .enum-told3 .given .1)
+    held (given {w = w32} (c .answer .ok)) ∙ c .answer .ensures ∙ whole (b .before .before .before) Fraction (b .enum-told3 .given .1)
 
 returns-4 : tie.Need-returns-4
 returns-4 c =
@@ -88,14 +82,13 @@ answer-spec =
     (tie.spec
     (λ c. search needs)
     (λ c. search needs)
-    slice-aggregate-answer
-    answer-requires
+    answer-polynomial-requires
     (λ c. search needs)
     (λ c. search needs)
     answer-rational-requires
     (λ c. search needs)
     (λ c. search needs)
-    answer-requires-2
+    answer-requires
     (λ c. search needs)
     root-requires
     (λ c. search needs)

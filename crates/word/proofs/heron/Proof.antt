@@ -1,4 +1,4 @@
--- `word::heron` meets its contract. The invariant: `w` is above 0, its size leaves room for the sum, and the root is not above it.
+-- `word::heron` meets its contract. The invariant, of w = less + 1: its size leaves room for the sum, and the root is not above it.
 use mathlib.Core.Path.{_≡_, sym, _∙_, subst}
 use Prim.Native.Nat.{ℕ, zero, suc, _+_, _-_, _*_, _/_, _%_, _^_, _<_, _≤_}
 use native.Mathlib.Nat.{one-mul, mod-eq-of-lt, div-add-mod, div-le-self}
@@ -15,10 +15,14 @@ abbrev Above : ℕ → ℕ → Type 0
 Above v w = (0 < w) × (w ≤ 2147483648) × (v < (w + 1) * (w + 1))
 
 abbrev Inv-loop : tie.InvT-loop
-Inv-loop v b w₀ w = Above v w
+Inv-loop v b less₀ less = Above v (less + 1)
 
 abbrev μ-loop : tie.MeasureT-loop
-μ-loop v b w₀ w = w
+μ-loop v b less₀ less = less
+
+-- a number above 0 is one more than one less
+one-less : (v w : ℕ) → Above v w → Above v (w - 1 + 1)
+one-less v w i = subst (Above v) (omega (arith, i .0)) i
 
 -- ---- the start
 abbrev digits : ℕ → ℕ
@@ -67,38 +71,49 @@ returns c = root-is (c .before .args .v) 0 (omega arith) (omega (arith, c .if1 .
 sub-b : tie.Need-sub-b Inv-loop μ-loop
 sub-b c = leading-le 64 (c .before .args .v)
 
-add-w : tie.Need-add-w Inv-loop μ-loop
-add-w c = record { fits = omega arith }
+add-less : tie.Need-add-less Inv-loop μ-loop
+add-less c = record { fits = omega arith }
 
-cast-w : tie.Need-cast-w Inv-loop μ-loop
-cast-w c = record { fits = omega (arith, div-le-self (digits (c .before .args .v) + 1) 2) }
+cast-less : tie.Need-cast-less Inv-loop μ-loop
+cast-less c = record { fits = omega (arith, div-le-self (digits (c .before .args .v) + 1) 2) }
 
-shl-w : tie.Need-shl-w Inv-loop μ-loop
-shl-w c = omega (arith, div-add-mod (digits (c .before .args .v) + 1) 2)
+shl-less : tie.Need-shl-less Inv-loop μ-loop
+shl-less c = omega (arith, div-add-mod (digits (c .before .args .v) + 1) 2)
+
+sub-less : tie.Need-sub-less Inv-loop μ-loop
+sub-less c = omega (arith, start-is (c .before .args .v) (c .before .pre), first (c .before .args .v) (c .before .pre) .0)
 
 loop-holds : tie.Need-loop-holds Inv-loop μ-loop
 loop-holds c =
     let d = c .before in
-    subst (λ (w : ℕ). Above (d .args .v) w) (sym (start-is (d .args .v) (d .pre))) (first (d .args .v) (d .pre))
+    one-less (d .args .v) _ (subst (Above (d .args .v)) (sym (start-is (d .args .v) (d .pre))) (first (d .args .v) (d .pre)))
+
+add-w : tie.Need-add-w Inv-loop μ-loop
+add-w c = record { fits = omega (arith, c .loop .inv .1) }
 
 div-next : tie.Need-div-next Inv-loop μ-loop
 div-next c = c .loop .inv .0
 
 add-next : tie.Need-add-next Inv-loop μ-loop
-add-next c = record { fits = omega (arith, c .loop .inv .1, c .before .before .pre, div-le-self (c .before .before .args .v) (c .loop .w)) }
+add-next c = record { fits = omega (arith, c .loop .inv .1, c .before .before .pre, div-le-self (c .before .before .args .v) (c .loop .less + 1)) }
+
+again : (c : tie.Else2 Inv-loop μ-loop) → Above (c .before .before .before .args .v) (heron (c .before .before .before .args .v) (c .before .loop .less + 1))
+again c = next (c .before .before .before .args .v) (c .before .loop .less + 1) (omega (arith, c .before .before .if1 .left)) (c .before .loop .inv) (c .if2 .left)
+
+sub-less-2 : tie.Need-sub-less-2 Inv-loop μ-loop
+sub-less-2 c = again c .0
 
 loop-less : tie.Need-loop-less Inv-loop μ-loop
-loop-less c = c .if2 .left
+loop-less c = omega (arith, c .if2 .left, again c .0)
 
 loop-again : tie.Need-loop-again Inv-loop μ-loop
-loop-again c =
-    let d = c .before .before .before in
-    next (d .args .v) (c .before .loop .w) (omega (arith, c .before .before .if1 .left)) (c .before .loop .inv) (c .if2 .left)
+loop-again c = one-less (c .before .before .before .args .v) _ (again c)
 
 returns-2 : tie.Need-returns-2 Inv-loop μ-loop
 returns-2 c =
     let v = c .before .before .before .args .v in
-    root-is v (c .before .loop .w) (ended v (c .before .loop .w) (c .if2 .taken)) (c .before .loop .inv .2)
+    let w = c .before .loop .less + 1 in
+    root-is v w (ended v w (c .if2 .taken)) (c .before .loop .inv .2)
 
 pub heron-spec : {M : Type 1} → statement M
 heron-spec =
@@ -108,12 +123,15 @@ heron-spec =
     μ-loop
     returns
     sub-b
-    add-w
-    cast-w
-    shl-w
+    add-less
+    cast-less
+    shl-less
+    sub-less
     loop-holds
+    add-w
     div-next
     add-next
+    sub-less-2
     loop-less
     loop-again
     returns-2)
