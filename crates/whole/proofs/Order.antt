@@ -4,7 +4,7 @@ use Prim.Native.Nat.{ℕ, suc, _+_, _*_, _≤_}
 use native.Mathlib.Omega.{arith}
 use lib.IntN.{ℤ, pos, negsuc, negℤ, natAbs, _+ℤ_, _*ℤ_}
 use lib.Signed.{_≤ℤ_}
-use Rattle.whole.proofs.Diff.{v, n, _⊕_, ⊖_, below, abs-is, size, parts-le-out}
+use Rattle.whole.proofs.Diff.{v, n, _⊕_, ⊖_, same, below, below-out, abs-is, size, near, parts-le-out}
 
 pub ≤ℤ-trans : {a b c : ℤ} → a ≤ℤ b → b ≤ℤ c → a ≤ℤ c
 ≤ℤ-trans {a} {b} {c} h k = below (v a) (v c) (omega (arith, parts-le-out a b h, parts-le-out b c k))
@@ -28,3 +28,10 @@ abs-mul (negsuc a) (negsuc b) = refl
 -- what a sum keeps of a's size
 pub abs-least : (a b : ℤ) → natAbs a ≤ natAbs (a +ℤ b) + natAbs b
 abs-least a b = omega (arith, size (v a ⊕ v b), size (v a), abs-is b)
+
+pub abs-zero : (a : ℤ) → natAbs a ≡ 0 → a ≡ pos 0
+abs-zero a h = same (v a) (n 0) (omega (arith, abs-is a))
+
+-- |a| ≤ k is −k ≤ a ≤ k
+pub abs-le : (a : ℤ) (k : ℕ) → negℤ (pos k) ≤ℤ a → a ≤ℤ pos k → natAbs a ≤ k
+abs-le a k h g = near (v a) k (omega (arith, below-out (v a) (n k) g, below-out (⊖ n k) (v a) h))

@@ -1,13 +1,13 @@
 -- The laws of rounding: how near, how large, exact where it divides, where a tie goes, and that these determine the result.
--- A change of the tie rule changes `rounded`, `rounded-tie`, `rounded-determined` and `rounded-by`; the other laws keep their statements.
-use mathlib.Core.Path.{_≡_, refl, ap}
+-- A change of the tie rule changes `rounded`, `rounded-tie`, `rounded-determined`, `rounded-by` and `shifted-is`; the other laws keep their statements.
+use mathlib.Core.Path.{_≡_, refl, sym, ap}
 use native.Mathlib.Decide.{decLe}
 use Prim.Native.Nat.{ℕ, _+_, _*_, _-_, _/_, _<_, _≤_}
-use native.Mathlib.Nat.{div-add-mod, mod-lt, lt-of-mul-lt-mul-left}
+use native.Mathlib.Nat.{div-add-mod, mod-lt, mul-le-mul-left, le-of-mul-le-mul-left, lt-of-mul-lt-mul-left, mul-lt-mul-of-pos-left}
 use native.Mathlib.Omega.{arith}
 use lib.IntN.{ℤ, pos, natAbs, _+ℤ_, _-ℤ_, _*ℤ_}
-use lib.Signed.{_≤ℤ_}
-use Rattle.whole.proofs.Diff.{Diff, P, N, v, n, _⊕_, _⊗_, _⊝_, size, near, abs-is, below, below-out}
+use lib.Signed.{_≤ℤ_, shrZ}
+use Rattle.whole.proofs.Diff.{Diff, P, N, v, n, _⊕_, _⊗_, _⊝_, same-out, size, near, abs-is, below, below-out}
 use Rattle.whole.proofs.Floor.{floor-of, floor-is}
 use Rattle.word.specs.Rounded.{rounded, roundedUp}
 
@@ -45,7 +45,7 @@ nearest-is : (m : ℤ) (d : ℕ) (q : ℤ) → 0 < d → Nearest m d q → round
 unfolding rounded doubled
 nearest-is m d q h f = floor-is (m +ℤ m +ℤ pos d) (d + d) q (omega arith) (record { low = omega (arith, f .low, doubled m d .is); high = omega (arith, f .high, doubled m d .is) })
 
--- for the functions of this crate: the result by any reading of q as a difference
+-- for the functions that divide: the result by any reading of q as a difference
 pub rounded-by : (m : ℤ) (d : ℕ) {q : ℤ} (r : Diff q) → 0 < d → 2 * (d * r .up) + 2 * N m ≤ 2 * P m + d + 2 * (d * r .dn) → 2 * P m + d + 2 * (d * r .dn) < 2 * N m + 2 * (d * r .up) + 2 * d → rounded m d ≡ q
 rounded-by m d {q} r h f g = nearest-is m d q h (record { low = omega (arith, ap (λ (t : ℕ). d * t) (r .is)); high = omega (arith, ap (λ (t : ℕ). d * t) (r .is)) })
 
@@ -86,3 +86,22 @@ rounded-size m d h =
 -- exact where it divides
 pub rounded-exact : (k : ℤ) (d : ℕ) → 0 < d → rounded (k *ℤ pos d) d ≡ k
 rounded-exact k d h = nearest-is (k *ℤ pos d) d k h (record { low = omega (arith, (v k ⊗ n d) .is); high = omega (arith, (v k ⊗ n d) .is) })
+
+-- it sees only the fraction's value
+pub rounded-same : (m : ℤ) (d : ℕ) (k : ℤ) (c : ℕ) → 0 < d → 0 < c → m *ℤ pos c ≡ k *ℤ pos d → rounded m d ≡ rounded k c
+rounded-same m d k c D C e =
+    let q = rounded k c in
+    let f = nearest-of k c C in
+    let g = same-out (v m ⊗ n c) (v k ⊗ n d) e in
+    nearest-is m d q D
+    (record {
+      low = le-of-mul-le-mul-left {k = c} (omega (arith, g, mul-le-mul-left d (f .low))) C;
+      high = lt-of-mul-lt-mul-left c (omega (arith, g, mul-lt-mul-of-pos-left (f .high) D));
+    })
+
+-- for the functions that shift: (m + d / 2) / d, rounded down, is m / d rounded
+pub shifted-is : (m : ℤ) (h d : ℕ) → 0 < d → 2 * h ≡ d → shrZ (m +ℤ pos h) d ≡ rounded m d
+shifted-is m h d f e =
+    let g = floor-of (m +ℤ pos h) d f in
+    let r = (v m ⊕ n h) .is in
+    sym (rounded-by m d (v (shrZ (m +ℤ pos h) d)) f (omega arith) (omega arith))

@@ -1,20 +1,17 @@
 -- `word::product` meets its contract. `held-n` and `held-sum` say what the locals hold; `shifted-is`, that the shift rounds.
 use borrow.Author.Needs.{needs}
 use mathlib.Core.Path.{_≡_, sym, ap, _∙_}
-use Prim.Native.Nat.{ℕ, _*_, _-_, _^_, _<_, _≤_}
+use Prim.Native.Nat.{ℕ, _*_, _-_, _^_, _≤_}
 use native.Mathlib.Nat.{mul-le-mul, pow-succ'}
 use native.Mathlib.Omega.{arith}
 use lib.IntN.{ℤ, pos, natAbs, _+ℤ_, _*ℤ_}
 use lib.Pow.{pow-pos, pow-mono}
-use lib.Signed.{shrZ}
 use mir.Syntax.{w32, w64}
 use Rattle.whole.proofs.Diff.{v, n, _⊕_, near-out}
 use Rattle.whole.proofs.Fit.{fit, fit-abs}
-use Rattle.whole.proofs.Floor.{floor-of}
 use Rattle.whole.proofs.Held.{back, Held, fits-code, held, arg, wider, plus, times, shr}
 use Rattle.whole.proofs.Order.{abs-mul}
-use Rattle.word.specs.Rounded.{rounded}
-use Rattle.word.proofs.RoundedLaws.{rounded-by}
+use Rattle.word.proofs.RoundedLaws.{shifted-is}
 use Rattle.word.specs.Words.{Word}
 use Rattle.word.proofs.product.Statement.{statement}
 use Rattle.word.proofs.product.Tie as tie
@@ -25,13 +22,6 @@ times-most a b f g = omega (arith, abs-mul a b, mul-le-mul f g)
 
 halved : (s : ℕ) → 16 ≤ s → 2 * 2 ^ (s - 1) ≡ 2 ^ s
 halved s h = sym (pow-succ' 2 (s - 1)) ∙ ap (λ (k : ℕ). 2 ^ k) (omega arith)
-
--- (m + u / 2) >> s is m / u rounded
-shifted-is : (m : ℤ) (h u : ℕ) → 0 < u → 2 * h ≡ u → shrZ (m +ℤ pos h) u ≡ rounded m u
-shifted-is m h u f e =
-    let g = floor-of (m +ℤ pos h) u f in
-    let r = (v m ⊕ n h) .is in
-    sym (rounded-by m u (v (shrZ (m +ℤ pos h) u)) f (omega arith) (omega arith))
 
 -- ---- what the locals hold
 module _ (c : tie.Start) where

@@ -1,0 +1,5 @@
+pub mod Back
+pub mod NumberLaws
+pub mod TableLaws
+pub mod Rule
+pub mod Padded

@@ -1,0 +1,79 @@
+-- What the bytes of one record say, by the row of its kind.
+use Prim.Native.Nat.{ℕ, zero, suc, _+_, _-_, _*_, _/_, _≤_}
+use mathlib.Core.Path.{_≡_}
+use mathlib.Core.List.{List, [], _∷_, _++_}
+use mathlib.Core.Bool.{cond}
+use lib.Dec.{eqb}
+use lib.ListN.{length, replicate}
+use lib.IntN.{ℤ, pos}
+use Rattle.formula.specs.declared.Kind.{Kind}
+use Rattle.formula.specs.declared.Shape.{Shape}
+use Rattle.formula.specs.declared.Formula.{Formula}
+use Rattle.layout.specs.declared.table.Field.{Field}
+use Rattle.layout.specs.declared.table.Row.{Row}
+use Rattle.layout.specs.Numbers.{number2, word4}
+
+-- the kind's code, a start's or an end's count, and a formula's number, lo and hi
+abbrev pub codeOf : List ℕ → ℕ
+codeOf b = number2 b 4
+
+abbrev pub countOf : List ℕ → ℕ
+countOf b = number2 b 6
+
+abbrev pub formulaNumber : List ℕ → ℕ
+formulaNumber b = number2 b 6
+
+abbrev pub loOf : List ℕ → ℤ
+loOf b = word4 b 8
+
+abbrev pub hiOf : List ℕ → ℤ
+hiOf b = word4 b 12
+
+-- the first count: by the record's length where it stands nowhere
+unfoldable pub firstCount : Row → List ℕ → ℕ
+firstCount r b = cond (eqb (r .p .at) 0) ((length b - r .head) / 4) (number2 b (r .p .at))
+
+-- the second count, or the mode: 0 where it stands nowhere
+unfoldable pub fieldOf : Field → List ℕ → ℕ
+fieldOf f b = cond (eqb (f .at) 0) 0 (number2 b (f .at))
+
+abbrev pub shape : Kind → ℕ → ℕ → ℕ → Shape
+shape k p q m = record { kind = k; p = p; q = q; mode = m }
+
+unfoldable pub shapeOf : Row → List ℕ → Shape
+shapeOf r b = shape (r .kind) (firstCount r b) (fieldOf (r .q) b) (fieldOf (r .mode) b)
+
+-- how many words, and how many bytes, there are for two counts
+unfoldable pub wordsBy : Row → ℕ → ℕ → ℕ
+wordsBy r p q = r .base + r .p .each * p + r .q .each * q
+
+abbrev pub lengthBy : Row → ℕ → ℕ → ℕ
+lengthBy r p q = r .head + 4 * wordsBy r p q
+
+-- the m words from a place on
+unfoldable pub words : List ℕ → ℕ → ℕ → List ℤ
+words b at zero = []
+words b at (suc m) = words b at m ++ (word4 b (at + 4 * m) ∷ [])
+
+-- with zeros behind them, 32 in all
+unfoldable pub padded : List ℤ → List ℤ
+padded l = l ++ replicate (32 - length l) (pos 0)
+
+abbrev pub wordsOf : Row → List ℕ → List ℤ
+wordsOf r b = words b (r .head) (wordsBy r (shapeOf r b .p) (shapeOf r b .q))
+
+abbrev pub formula : ℕ → Shape → ℤ → ℤ → List ℤ → Formula
+formula n h l u w = record { number = n; shape = h; lo = l; hi = u; words = w }
+
+unfoldable pub formulaOf : Row → List ℕ → Formula
+formulaOf r b = formula (formulaNumber b) (shapeOf r b) (loOf b) (hiOf b) (padded (wordsOf r b))
+
+-- a count in its range
+abbrev pub Within : Field → ℕ → Type 0
+Within f n = (f .least ≤ n) × (n ≤ f .most)
+
+-- counts in their ranges, and the length that they ask for
+pub record Laid (r : Row) (b : List ℕ) : Type 0 where
+  pub p : Within (r .p) (shapeOf r b .p)
+  pub q : Within (r .q) (shapeOf r b .q)
+  pub exact : lengthBy r (shapeOf r b .p) (shapeOf r b .q) ≡ length b

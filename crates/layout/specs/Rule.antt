@@ -1,0 +1,41 @@
+-- What holds of every row of the table, and of the bytes of a formula record.
+use Prim.Native.Nat.{ℕ, _+_, _*_, _≤_}
+use mathlib.Core.Path.{_≡_}
+use mathlib.Core.List.{List}
+use lib.ListN.{length}
+use Rattle.formula.specs.Formula.{Counted, wordCount}
+use Rattle.layout.specs.declared.table.Class.{Class}
+use Rattle.layout.specs.declared.table.Class.the-variants.{StartRecord, FormulaRecord, EndRecord, Unknown}
+use Rattle.layout.specs.declared.table.Row.{Row}
+use Rattle.layout.specs.Fields.{Within, wordsBy, Laid}
+
+-- how far a class's own fields go: to the count, or to number, lo and hi
+abbrev pub leastHead : Class → ℕ
+leastHead StartRecord = 8
+leastHead FormulaRecord = 16
+leastHead EndRecord = 8
+leastHead Unknown = 8
+
+-- counts and mode in the row's ranges are what the formula's kind asks for, and so is the number of words
+abbrev pub Meets : Row → Type 0
+Meets r =
+    (p q mode : ℕ) → Within (r .p) p → Within (r .q) q → Within (r .mode) mode
+    → Counted (r .kind) p q mode × (wordCount (r .kind) p q ≡ wordsBy r p q)
+
+-- the fields stand in front of the words, an array of 32 holds these, and a formula's row meets its kind
+pub record Ruled (r : Row) : Type 0 where
+  pub least : leastHead (r .class) ≤ r .head
+  pub most : r .head ≤ 20
+  pub p : r .p .at + 2 ≤ r .head
+  pub q : r .q .at + 2 ≤ r .head
+  pub mode : r .mode .at + 2 ≤ r .head
+  pub words : r .base + r .p .each * r .p .most + r .q .each * r .q .most ≤ 32
+  pub kind : r .class ≡ FormulaRecord → Meets r
+
+-- the bytes of a formula record, of the length that its kind and counts ask for
+pub record Held (r : Row) (b : List ℕ) : Type 0 where
+  pub ruled : Ruled r
+  pub class : r .class ≡ FormulaRecord
+  pub least : 16 ≤ length b
+  pub most : length b ≤ 120
+  pub laid : Laid r b

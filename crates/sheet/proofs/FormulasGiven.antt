@@ -1,0 +1,121 @@
+-- Promise: each formula that the reader gives is sound and admitted and has the number asked for; a number is found exactly
+-- when a record of the sheet has it, and the formula is then that record's.
+use mathlib.Core.Path.{_≡_, _∙_, refl, sym, ap, subst}
+use mathlib.Core.List.{List}
+use mathlib.Core.Logic.{_⊎_, inl, inr}
+use Prim.Native.Nat.{ℕ, zero, suc, _+_, _≤_}
+use native.Mathlib.Omega.{arith}
+use lib.ListN.{length}
+use Rattle.admission.specs.declared.Admission.{Admission}
+use Rattle.admission.specs.declared.Admission.the-variants.{Admitted, RangeLeft, DivisorZero}
+use Rattle.formula.specs.declared.Formula.{Formula}
+use Rattle.admission.specs.Admission.{numberOf}
+use Rattle.formula.specs.Formula.{Sound, admissionOf}
+use Rattle.layout.specs.Fields.{codeOf, formulaNumber, shapeOf, loOf, hiOf, wordsOf, padded, formulaOf}
+use Rattle.layout.proofs.Rule.{ruled}
+use Rattle.sheet.specs.Faults.{bytesAt, rowFor, valueFault, places, innerFault}
+use Rattle.sheet.specs.Walking.{refusal, walkOf}
+use Rattle.sheet.specs.Sheets.{FormulaBytes, Has, SheetOf}
+use Rattle.sheet.specs.Reader.{countNumber, formulaCount, foundNumber, reading, withheld, foundAnswer, readAnswer, formulaRead, Accepted, Answered}
+use Rattle.sheet.specs.declared.answers.FormulaCount.{FormulaCount}
+use Rattle.sheet.specs.declared.answers.FormulaCount.the-variants.{Count, Refused}
+use Rattle.sheet.specs.declared.answers.Found.the-variants.{Given}
+use Rattle.sheet.specs.declared.answers.Reading.{Reading}
+use Rattle.sheet.proofs.Chain.{neither}
+use Rattle.sheet.proofs.Lengths.{laid}
+use Rattle.sheet.proofs.Soundness.{sound-record}
+use Rattle.sheet.proofs.ShapeToWalk.{placeIn}
+use Rattle.sheet.proofs.AcceptedShape.{accepted-shape, walk-of}
+use Rattle.sheet.proofs.SameRefusal.{same-refusal}
+use Rattle.sheet.proofs.Places.{At, noted, has, stands, given}
+
+-- ---- a formula record without fault holds a sound, admitted formula
+
+pub record Fit (f : Formula) : Type 0 where
+  pub sound : Sound (f .shape) (f .lo) (f .hi) (f .words)
+  pub admitted : admissionOf places (f .shape) (f .lo) (f .hi) (f .words) ≡ Admitted
+
+only-admitted : (a : Admission) → numberOf a ≡ 0 → a ≡ Admitted
+only-admitted Admitted e = refl
+only-admitted RangeLeft e = absurd (omega arith)
+only-admitted DivisorZero e = absurd (omega arith)
+
+fit : (b : List ℕ) → FormulaBytes b → Fit (formulaOf (rowFor b) b)
+unfolding innerFault formulaOf
+fit b f =
+    let r = rowFor b in
+    let n = neither (valueFault r (shapeOf r b) (loOf b) (hiOf b) (padded (wordsOf r b))) _ (f .inner) in
+    record {
+      sound = sound-record r b (ruled (codeOf b)) (laid r b (f .one .exact)) (loOf b) (hiOf b) (f .one .class) (n .0);
+      admitted = only-admitted _ (n .1);
+    }
+
+-- ---- what the reader answers for a number that a sheet has, and for one that it has not
+
+-- the formula of a record b of the sheet, which has the number n
+pub record Gives (s : List ℕ) (n : ℕ) (fs : List (List ℕ)) : Type 0 where
+  pub record-bytes : List ℕ
+  pub there : Has n fs
+  pub number : formulaNumber record-bytes ≡ n
+  pub answer : formulaRead s n ≡ reading Given (formulaOf (rowFor record-bytes) record-bytes)
+  pub fits : Fit (formulaOf (rowFor record-bytes) record-bytes)
+
+module _ (c : ℕ) (s : List ℕ) (h : SheetOf c s) (n : ℕ) where
+  place : ℕ
+  place = placeIn n (length (h .start)) 0 (h .formulas)
+
+  answer-is : formulaRead s n ≡ foundAnswer s place
+  unfolding formulaRead place
+  answer-is = ap (readAnswer s) (walk-of c s h n)
+
+  gives : At n (length (h .start)) place (h .formulas) → Gives s n (h .formulas)
+  gives a =
+      let b = a .here in
+      let t = stands c s h n place a in
+      let e = t .1 in
+      let f : FormulaBytes b = subst FormulaBytes e (t .0 .bytes) in
+      record {
+        record-bytes = b;
+        there = has n _ _ (h .formulas) a;
+        number = a .number;
+        answer = answer-is ∙ given s place (λ z. omega (arith, a .place, z, h .opens .0 .least)) ∙ ap (λ (x : List ℕ). reading Given (formulaOf (rowFor x) x)) e;
+        fits = fit b f;
+      }
+
+  pub found-or-not : Gives s n (h .formulas) ⊎ ((Has n (h .formulas) → ⊥) × (formulaRead s n ≡ withheld (refusal 0 11)))
+  unfolding place
+  found-or-not = at (noted n (length (h .start)) 0 (h .formulas))
+    where
+      at : ((place ≡ 0) × (Has n (h .formulas) → ⊥)) ⊎ At n (length (h .start)) place (h .formulas)
+          → Gives s n (h .formulas) ⊎ ((Has n (h .formulas) → ⊥) × (formulaRead s n ≡ withheld (refusal 0 11)))
+      at (inl x) = inr (x .1, answer-is ∙ ap (foundAnswer s) (x .0))
+      at (inr a) = inl (gives a)
+
+-- ---- the promises
+
+-- a number is found exactly when a record of the sheet has it
+pub found-exactly : (c : ℕ) (s : List ℕ) (h : SheetOf c s) (n : ℕ) → (Has n (h .formulas) → Answered s n) × (Answered s n → Has n (h .formulas))
+found-exactly c s h n = at (found-or-not c s h n)
+  where
+    at : Gives s n (h .formulas) ⊎ ((Has n (h .formulas) → ⊥) × (formulaRead s n ≡ withheld (refusal 0 11))) → (Has n (h .formulas) → Answered s n) × (Answered s n → Has n (h .formulas))
+    at (inl g) = ((λ x. ap (λ (r : Reading). foundNumber (r .found)) (g .answer)), λ x. g .there)
+    at (inr l) = ((λ x. absurd (l .0 x)), λ x. absurd (let z : _≡_ {A = ℕ} 11 0 = rw (l .1) at x in omega arith))
+
+-- a number is found in an accepted sheet only
+answered-accepted : (s : List ℕ) (n : ℕ) → Answered s n → Accepted s
+answered-accepted s n e = at (formulaCount s) refl
+  where
+    at : (x : FormulaCount) → formulaCount s ≡ x → countNumber x ≡ 0
+    at (Count c) q = refl
+    at (Refused r) q = rw (same-refusal s n r q) at e
+
+-- a formula that is given is sound and admitted, and has the number
+pub given-fits : (s : List ℕ) (n : ℕ) → Answered s n → Fit (formulaRead s n .formula) × (formulaRead s n .formula .number ≡ n)
+unfolding formulaOf
+given-fits s n e =
+    let p = accepted-shape s (answered-accepted s n e) in
+    at (p .2 .formulas) (found-or-not (p .0) s (p .2) n)
+  where
+    at : (fs : List (List ℕ)) → Gives s n fs ⊎ ((Has n fs → ⊥) × (formulaRead s n ≡ withheld (refusal 0 11))) → Fit (formulaRead s n .formula) × (formulaRead s n .formula .number ≡ n)
+    at fs (inl g) = rw (g .answer) (g .fits, g .number)
+    at fs (inr l) = absurd (let z : _≡_ {A = ℕ} 11 0 = rw (l .1) at e in omega arith)

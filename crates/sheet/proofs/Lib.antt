@@ -1,0 +1,17 @@
+pub mod Chain
+pub mod Lengths
+pub mod Values
+pub mod Soundness
+pub mod Steps
+pub mod Inverted
+pub mod Going
+pub mod Records
+pub mod WalkToShape
+pub mod ShapeToWalk
+pub mod Places
+pub mod OneToNine
+pub mod SameRefusal
+pub mod AcceptedShape
+pub mod CutShort
+pub mod ZeroTail
+pub mod FormulasGiven

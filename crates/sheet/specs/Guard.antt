@@ -1,0 +1,12 @@
+-- Refusals in order: a fault is the paper's number, or 0 for none, and stands in front of all that comes after it.
+use Prim.Native.Nat.{ℕ}
+use mathlib.Core.Bool.{cond}
+use lib.Dec.{eqb}
+
+-- on to `ok`, unless there is a fault
+abbrev pub guard : {A : Type 0} → ℕ → (ℕ → A) → A → A
+guard fault bad ok = cond (eqb fault 0) ok (bad fault)
+
+-- the first fault of two
+abbrev pub orElse : ℕ → ℕ → ℕ
+orElse first second = guard first (λ fault. fault) second

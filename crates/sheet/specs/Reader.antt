@@ -1,0 +1,93 @@
+-- What the reader answers: the formula count of a sheet, and the formula of a number.
+use Prim.Native.Nat.{ℕ, zero, suc, _≤_}
+use mathlib.Core.Path.{_≡_}
+use mathlib.Core.List.{List, []}
+use lib.ListN.{length}
+use lib.IntN.{pos}
+use Rattle.formula.specs.declared.Kind.the-variants.{NoFormula}
+use Rattle.formula.specs.declared.Formula.{Formula}
+use Rattle.layout.specs.Fields.{shape, padded, formula, formulaOf}
+use Rattle.sheet.specs.Faults.{frameFault, bytesAt, rowFor}
+use Rattle.sheet.specs.Walking.{refusal, walkOf}
+use Rattle.sheet.specs.Sheets.{FormulaBytes}
+use Rattle.sheet.specs.declared.answers.Refusal.{Refusal}
+use Rattle.sheet.specs.declared.answers.FormulaCount.{FormulaCount}
+use Rattle.sheet.specs.declared.answers.FormulaCount.the-variants.{Count, Refused}
+use Rattle.sheet.specs.declared.answers.Found.{Found}
+use Rattle.sheet.specs.declared.answers.Found.the-variants.{Given, Refused as Withheld}
+use Rattle.sheet.specs.declared.answers.Reading.{Reading}
+use Rattle.sheet.specs.declared.walking.Walked.{Walked}
+use Rattle.sheet.specs.declared.walking.Walked.the-variants.{Whole, Broken}
+
+-- ---- the paper's number, place and value of each case; 0 where there is no refusal
+abbrev pub countNumber : FormulaCount → ℕ
+countNumber (Count c) = 0
+countNumber (Refused r) = r .number
+
+abbrev pub countPlace : FormulaCount → ℕ
+countPlace (Count c) = 0
+countPlace (Refused r) = r .place
+
+abbrev pub countValue : FormulaCount → ℕ
+countValue (Count c) = c
+countValue (Refused r) = 0
+
+abbrev pub foundNumber : Found → ℕ
+foundNumber Given = 0
+foundNumber (Withheld r) = r .number
+
+abbrev pub foundPlace : Found → ℕ
+foundPlace Given = 0
+foundPlace (Withheld r) = r .place
+
+-- ---- the count: 1 to 9
+abbrev pub countAnswer : Walked → FormulaCount
+countAnswer (Whole c k) = Count c
+countAnswer (Broken r) = Refused r
+
+-- above every number: none is asked for
+abbrev pub noNumber : ℕ
+noNumber = 65536
+
+unfoldable pub formulaCount : List ℕ → FormulaCount
+formulaCount s = countAnswer (walkOf s noNumber)
+
+abbrev pub Accepted : List ℕ → Type 0
+Accepted s = countNumber (formulaCount s) ≡ 0
+
+abbrev pub NotAccepted : List ℕ → Type 0
+NotAccepted s = (1 ≤ countNumber (formulaCount s)) × (countNumber (formulaCount s) ≤ 9)
+
+-- ---- the formula: 1 to 9, then 11
+unfoldable pub noFormula : Formula
+noFormula = formula 0 (shape NoFormula 0 0 0) (pos 0) (pos 0) (padded [])
+
+abbrev pub reading : Found → Formula → Reading
+reading a f = record { found = a; formula = f }
+
+abbrev pub withheld : Refusal → Reading
+withheld r = reading (Withheld r) noFormula
+
+abbrev pub formulaAt : List ℕ → ℕ → Formula
+formulaAt s place = formulaOf (rowFor (bytesAt s place)) (bytesAt s place)
+
+-- 0 is the start's place, so no formula's
+abbrev pub foundAnswer : List ℕ → ℕ → Reading
+foundAnswer s zero = withheld (refusal 0 11)
+foundAnswer s (suc k) = reading Given (formulaAt s (suc k))
+
+abbrev pub readAnswer : List ℕ → Walked → Reading
+readAnswer s (Whole c k) = foundAnswer s k
+readAnswer s (Broken r) = withheld r
+
+unfoldable pub formulaRead : List ℕ → ℕ → Reading
+formulaRead s n = readAnswer s (walkOf s n)
+
+abbrev pub Answered : List ℕ → ℕ → Type 0
+Answered s n = foundNumber (formulaRead s n .found) ≡ 0
+
+-- a formula record without fault stands at a place
+pub record Standing (s : List ℕ) (place : ℕ) : Type 0 where
+  pub within : place ≤ length s
+  pub frame : frameFault s place ≡ 0
+  pub bytes : FormulaBytes (bytesAt s place)

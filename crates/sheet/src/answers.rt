@@ -1,0 +1,24 @@
+// What the reader answers.
+use formula::Formula;
+
+// The paper's number of a refusal, and the place of the byte that it names.
+pub struct Refusal {
+    pub number: u8,
+    pub place: usize,
+}
+
+pub enum FormulaCount {
+    Count(u16),
+    Refused(Refusal),
+}
+
+pub enum Found {
+    Given,
+    Refused(Refusal),
+}
+
+// An enum may not hold the formula's array, so the formula stands beside it: all zero, and no formula, when refused.
+pub struct Reading {
+    pub found: Found,
+    pub formula: Formula,
+}
