@@ -1,0 +1,36 @@
+-- `board::shown` meets its contract.
+use borrow.Author.Needs.{needs}
+use mathlib.Core.Path.{_≡_, refl, sym, subst}
+use lib.IntN.{ℤ}
+use mir.Syntax.{w32}
+use mir.Val.{SFits}
+use Rattle.whole.proofs.Held.{held, arg}
+use Rattle.door.specs.Exact.{Exactly}
+use Rattle.sheet.specs.Faults.{places}
+use Rattle.board.specs.Board.{ShownAs}
+use Rattle.board.specs.declared.answers.Evaluation.{Evaluation}
+use Rattle.board.specs.declared.answers.Shown.the-variants.{Value, Refused}
+use Rattle.board.proofs.shown.Statement.{statement}
+use Rattle.board.proofs.shown.Tie as tie
+
+fits-word : (c : tie.After-struct-told) → SFits w32 (c .before .before .e .given .0 .0 .word)
+fits-word c = search (needs, c .struct-told .given)
+
+returns : tie.Need-returns
+returns c =
+    let e = c .before .before .before .e .given in
+    subst (λ (e : Evaluation). ShownAs e (Value (c .shown .result))) (sym (e .1))
+    (subst (λ (z : ℤ). Exactly places z (c .shown .result)) (held (arg {w = w32} {x = e .0 .0 .word} (fits-word (c .before)))) (c .shown .ensures))
+
+returns-2 : tie.Need-returns-2
+returns-2 c = subst (λ (e : Evaluation). ShownAs e (Refused (c .before .e2 .given .0 .0))) (sym (c .before .e2 .given .1)) refl
+
+pub shown-spec : {M : Type 1} → statement M
+shown-spec =
+    tie.close
+    (tie.spec
+    (λ c. search needs)
+    (λ c κs. search needs)
+    (λ c. search needs)
+    returns
+    returns-2)

@@ -1,0 +1,2 @@
+-- What a sheet, a number and an argument answer.
+pub mod Board
