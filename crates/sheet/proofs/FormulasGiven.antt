@@ -119,3 +119,13 @@ given-fits s n e =
     at : (fs : List (List ℕ)) → Gives s n fs ⊎ ((Has n fs → ⊥) × (formulaRead s n ≡ withheld (refusal 0 11))) → Fit (formulaRead s n .formula) × (formulaRead s n .formula .number ≡ n)
     at fs (inl g) = rw (g .answer) (g .fits, g .number)
     at fs (inr l) = absurd (let z : _≡_ {A = ℕ} 11 0 = rw (l .1) at e in omega arith)
+
+-- no refusal has the number 0: where there is none, the formula is given
+pub given-found : (s : List ℕ) (n : ℕ) → Answered s n → formulaRead s n .found ≡ Given
+given-found s n e =
+    let p = accepted-shape s (answered-accepted s n e) in
+    at (p .2 .formulas) (found-or-not (p .0) s (p .2) n)
+  where
+    at : (fs : List (List ℕ)) → Gives s n fs ⊎ ((Has n fs → ⊥) × (formulaRead s n ≡ withheld (refusal 0 11))) → formulaRead s n .found ≡ Given
+    at fs (inl g) = ap (λ (r : Reading). r .found) (g .answer)
+    at fs (inr l) = absurd (let z : _≡_ {A = ℕ} 11 0 = rw (l .1) at e in omega arith)

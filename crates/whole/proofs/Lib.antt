@@ -1,6 +1,7 @@
 -- The laws of the whole numbers, lowest first.
 pub mod Diff
 pub mod Ring
+pub mod Settled
 pub mod Order
 pub mod Floor
 pub mod Fit

@@ -1,0 +1,382 @@
+"""The oracle's self-test: python3 oracle/check.py
+
+The last line says 'N passed, M failed'; the exit status is 0 if M is 0.
+"""
+
+import lzma
+import sys
+from fractions import Fraction
+from pathlib import Path
+from random import Random
+
+import slow
+from by_hand import ADMISSIONS, ANSWERS, LISTED, REFUSED
+from door import evaluate_double, interval, pattern_of, word_of
+from evaluation import evaluate
+from formulas import (
+    FRACTION, POLYNOMIAL, RATIONAL, ROOT, Formula, admission, answer)
+from makers import (
+    KINDS, arguments, good_formula, good_formulas, sheet_of, signed, size,
+    with_field, word)
+from number import (
+    M, NO_WORD, ONE, bound_product, bound_quotient, is_word, product, quotient,
+    root)
+from questions import (
+    answer_to, ask_record, ask_sheet, buffer_beforehand)
+from refusal import Refused
+from sheet import END, START, formula_count, formula_of, read
+from vectors import taken_apart
+from writing import record_of, start_or_end, write_record, write_sheet
+
+INFINITY = 0x7FF << 52
+
+
+class Tally:
+    """Counts what is as expected and tells what is not."""
+
+    def __init__(self):
+        self.passed = 0
+        self.failed = 0
+
+    def same(self, what, found, expected):
+        if found == expected:
+            self.passed += 1
+        else:
+            self.failed += 1
+            print(f"{what}: found {found}, expected {expected}")
+
+
+def outcome(question, *given):
+    """What a function answers, or its refusal's number and place."""
+    try:
+        return question(*given)
+    except Refused as refusal:
+        return refused(refusal.number, refusal.place)
+
+
+def refused(number, place=0):
+    return "refused", number, place
+
+
+def check_by_hand(tally, rng):
+    """Every row of 'Checked by hand', P or not, and the listing's sheets."""
+    for formula, argument, expected in ANSWERS:
+        sheet = sheet_of([formula])
+        tally.same("by hand", evaluate(sheet, 1, argument), expected)
+        tally.same("by hand, in doubles",
+                   evaluate_double(sheet, 1, pattern_of(argument)),
+                   pattern_of(expected))
+    for formula, expected in ADMISSIONS:
+        tally.same("by hand, admission",
+                   outcome(formula_count, sheet_of([formula])),
+                   refused(expected, 8) if expected else 1)
+    for sheet, number, place in REFUSED:
+        tally.same("listing", outcome(formula_count, sheet),
+                   refused(number, place))
+    tally.same("listing", read(LISTED),
+               [Formula(ROOT, 1, 0, 33554432, 0, 0, 0, ())])
+
+
+def check_arithmetic(tally, rng):
+    """Products, quotients, bounds and roots against slow definitions."""
+    for _ in range(4000):
+        a, b, d = word(rng), word(rng), word(rng) or 1
+        twos = rng.randrange(24)
+        tied = (signed(rng, 2 * size(rng, 99) + 1 << twos),
+                signed(rng, 2 * size(rng, 99) + 1 << 23 - twos))
+        for x, y in ((a, b), tied):
+            tally.same(f"product {x} {y}", product(x, y), slow.product(x, y))
+        tied = signed(rng, 2 * size(rng, 99) + 1), signed(rng, 1 << 25)
+        for x, y in ((a, d), tied):
+            tally.same(f"quotient {x} {y}", quotient(x, y),
+                       slow.quotient(x, y))
+        a, b, d = abs(a), abs(b), abs(d)
+        tally.same(f"bound product {a} {b}", bound_product(a, b),
+                   slow.bound_product(a, b))
+        tally.same(f"bound quotient {a} {d}", bound_quotient(a, d),
+                   slow.bound_quotient(a, d))
+        side = rng.randrange(1, 46341)
+        for x in (a, side * side - 1, side * side, side * side + 1, 0, M):
+            tally.same(f"root {x}", root(x), slow.root(x))
+    for a, b, expected in ((1, 8388608, 1), (-1, 8388608, 0),
+                           (-1, 8388609, -1), (-3, 8388608, -1),
+                           (M, M, 274877906688)):
+        tally.same(f"product {a} {b}", product(a, b), expected)
+    for a, d, expected in ((1, 1 << 25, 1), (-1, 1 << 25, 0),
+                           (1, -(1 << 25), 0), (-1, -(1 << 25), 1),
+                           (-3, 1 << 25, -1), (ONE, -3 * ONE, -5592405)):
+        tally.same(f"quotient {a} {d}", quotient(a, d), expected)
+
+
+def check_formulas(tally, rng):
+    """Answers and admission against slow definitions; an admitted formula's
+    answers are words, and its divisors never 0."""
+    for kind in KINDS * 300:
+        formula = good_formula(rng, kind)
+        tally.same(f"admission of {formula}", slow.admission(formula), 0)
+        for argument in arguments(rng, formula)[:4]:
+            found = answer(formula, argument)
+            tally.same(f"{formula} at {argument}", found,
+                       slow.answer(formula, argument))
+            tally.same(f"{found} is a word", is_word(found), True)
+        changed = list(formula.words)
+        for _ in range(3 if changed else 0):
+            changed[rng.randrange(len(changed))] = word(rng)
+            spoilt = formula._replace(words=tuple(changed))
+            tally.same(f"admission of {spoilt}", admission(spoilt),
+                       slow.admission(spoilt))
+
+
+def check_doubles(tally, rng):
+    """Patterns against the value worked out from their bits in fractions."""
+    for _ in range(3000):
+        near = 1023 - 30 + rng.randrange(40) << 52 | rng.getrandbits(52)
+        tie = pattern_of(2 * word(rng) + 1, -25)
+        for pattern in (near, near | 1 << 63, tie, tie + 1, tie - 1,
+                        rng.getrandbits(64)):
+            expected = refused(13)
+            if pattern & INFINITY != INFINITY:
+                expected = slow.nearest(slow.value(pattern) * ONE)
+            tally.same(f"double {pattern:016x}", outcome(word_of, pattern),
+                       expected)
+        n = word(rng)
+        tally.same(f"double of {n}", slow.value(pattern_of(n)),
+                   Fraction(n, ONE))
+        tally.same(f"double of {n} and back", word_of(pattern_of(n)), n)
+    for n, pattern in ((0, 0), (ONE, 0x3FF0000000000000),
+                       (-2 * ONE, 0xC000000000000000),
+                       (1, 0x3E70000000000000), (M, 0x405FFFFFFFC00000)):
+        tally.same(f"double of {n}", pattern_of(n), pattern)
+    for pattern in (0, 1, 1 << 63, 1 << 63 | 1, 1 << 52, 0x3E5FFFFFFFFFFFFF,
+                    0xBE60000000000000):
+        tally.same(f"double {pattern:016x}", word_of(pattern), 0)
+
+
+# Records for the cases below.
+
+
+def framing(kind, count, length=8):
+    return with_field(start_or_end(kind, count), 0, "I", length)
+
+
+def root_record(number, lo=0, hi=1):
+    return record_of(Formula(ROOT, number, lo, hi, 0, 0, 0, ()))
+
+
+def polynomial_record(number, words, lo=-1, hi=1):
+    return record_of(Formula(POLYNOMIAL, number, lo, hi, 0, 0, 0, words))
+
+
+def rational_record(number, p, q, words, lo=-1, hi=1):
+    return record_of(Formula(RATIONAL, number, lo, hi, p, q, 0, words))
+
+
+def fraction_record(number, mode, depth, words, lo=-1, hi=1):
+    return record_of(Formula(FRACTION, number, lo, hi, depth, 0, mode, words))
+
+
+def cut_record(record, length):
+    return with_field(record[:length], 0, "I", length)
+
+
+def check_order(tally, rng):
+    """The reader's refusals and their order, case by case."""
+    one, end = framing(START, 1), framing(END, 1)
+    two = framing(START, 2)
+    good = root_record(5)
+    ratio = rational_record(5, 1, 1, (1, 1))
+    for sheet, number, place in (
+            # The start record.
+            (bytes(3), 1, 0), (bytes(4), 2, 0), (framing(START, 0, 7), 2, 0),
+            (framing(START, 0, 121), 2, 0), (framing(START, 0, 120), 1, 0),
+            (framing(END, 0, 9) + b"\0", 3, 0), (end, 3, 0), (good, 3, 0),
+            (framing(START, 0, 9) + b"\0", 2, 0), (framing(START, 0), 4, 0),
+            (framing(START, 65), 4, 0), (one, 1, 8),
+            # 1 and 2 before 3, and 3 before the exact length.
+            (one + framing(START, 1, 7), 2, 8),
+            (one + framing(START, 1, 9), 1, 8),
+            (one + framing(START, 1, 9) + b"\0", 3, 8),
+            (one + framing(0x0014, 1), 3, 8),
+            # The exact length and counts.
+            *((one + cut_record(ratio, n) + end, 2, 8) for n in range(8, 28)),
+            (one + polynomial_record(5, ()) + end, 2, 8),
+            (one + polynomial_record(5, (1,) * 17) + end, 2, 8),
+            (one + rational_record(5, 0, 2, (1, 1)) + end, 2, 8),
+            (one + rational_record(5, 13, 1, (1,) * 14) + end, 2, 8),
+            (one + fraction_record(5, 3, 0, (1,)) + end, 2, 8),
+            (one + fraction_record(5, 0, 13, (1,) * 25) + end, 2, 8),
+            # A formula too many: after 2, before 5 and 6.
+            (one + good + root_record(5, NO_WORD) + end, 4, 24),
+            (one + good + cut_record(ratio, 24) + end, 2, 24),
+            # The end record: too early, another count, bytes after it.
+            (two + good + framing(END, 2), 4, 24),
+            (two + good + framing(END, 2, 9) + b"\0", 2, 24),
+            (one + good + framing(END, 2), 4, 24),
+            (one + good + framing(END, 2) + b"\0", 4, 24),
+            (one + good + end + b"\0", 9, 32),
+            (one + good + end + one, 9, 32),
+            # 5 before 6, 6 before 7 and 8.
+            (two + good + root_record(5, -1) + framing(END, 2), 5, 24),
+            (two + good + root_record(4, -1) + framing(END, 2), 5, 24),
+            (two + good + root_record(6, -1) + framing(END, 2), 6, 24),
+            (one + root_record(5, 2, 1) + end, 6, 8),
+            (one + fraction_record(5, 3, 1, (0, 0, 0)) + end, 6, 8),
+            (one + polynomial_record(5, (M, NO_WORD)) + end, 6, 8),
+            # 7 and 8 as Admission meets them.
+            (one + polynomial_record(5, (M, 1)) + end, 7, 8),
+            (one + rational_record(5, 2, 1, (M, 1, 0)) + end, 7, 8),
+            (one + rational_record(5, 1, 2, (0, M, 1)) + end, 7, 8),
+            (one + rational_record(5, 1, 2, (128, 1, 1)) + end, 8, 8),
+            (one + rational_record(5, 1, 2, (128, 2, 1)) + end, 7, 8),
+            (one + fraction_record(5, 1, 1, (0, 0, 0), -M, M) + end, 7, 8),
+            (one + fraction_record(5, 2, 1, (0, 0, 1), -M, M) + end, 7, 8),
+            (one + fraction_record(5, 0, 1, (0, M, 0), -M, M) + end, 8, 8),
+            (one + fraction_record(5, 0, 1, (0, M, 1), -M, M) + end, 7, 8)):
+        tally.same(f"sheet {sheet.hex()}", outcome(formula_count, sheet),
+                   refused(number, place))
+    for sheet in (one + root_record(0) + end, one + root_record(65535) + end,
+                  one + rational_record(5, 1, 2, (127, 2, 1)) + end,
+                  one + fraction_record(5, 0, 1, (0, 0, 1), -M, M) + end):
+        tally.same(f"sheet {sheet.hex()}", outcome(formula_count, sheet), 1)
+    most = framing(START, 64) + b"".join(map(root_record, range(64)))
+    end = framing(END, 64)
+    tally.same("64 formulas", outcome(formula_count, most + end), 64)
+    tally.same("65 formulas",
+               outcome(formula_count, most + root_record(64) + end),
+               refused(4, 8 + 64 * 16))
+
+
+def check_questions(tally, rng):
+    """11, 13 and 10, and a sheet's own refusal before them."""
+    sheet = framing(START, 1) + root_record(5, 4, 9) + framing(END, 1)
+    broken = sheet[:-1]
+    for argument in (NO_WORD, -1, 3, 10, M):
+        tally.same("outside", outcome(evaluate, sheet, 5, argument),
+                   refused(10))
+        tally.same("absent", outcome(evaluate, sheet, 4, argument),
+                   refused(11))
+        tally.same("broken", outcome(evaluate, broken, 4, argument),
+                   refused(1, 24))
+    for argument in (INFINITY, INFINITY | 1, INFINITY | 1 << 63, 2**64 - 1):
+        tally.same("not finite", outcome(evaluate_double, sheet, 5, argument),
+                   refused(13))
+        tally.same("absent", outcome(evaluate_double, sheet, 4, argument),
+                   refused(11))
+        tally.same("broken", outcome(evaluate_double, broken, 4, argument),
+                   refused(1, 24))
+    lowest, highest = pattern_of(7, -25), pattern_of(19, -25)
+    for pattern, expected in (
+            (lowest, pattern_of(8192)), (lowest - 1, refused(10)),
+            (highest - 1, pattern_of(12288)), (highest, refused(10)),
+            (INFINITY - 1, refused(10))):
+        tally.same("ends", outcome(evaluate_double, sheet, 5, pattern),
+                   expected)
+    tally.same("interval", outcome(interval, sheet, 5),
+               (pattern_of(4), pattern_of(9)))
+    tally.same("interval", outcome(interval, sheet, 4), refused(11))
+    tally.same("formula", outcome(formula_of, sheet, 4), refused(11))
+    tally.same("formula", outcome(formula_of, broken, 5), refused(1, 24))
+
+
+def check_round_trips(tally, rng):
+    """Reading undoes writing, and writing undoes reading."""
+    for count in (1, 2, 3, 5, 64) * 30:
+        formulas = good_formulas(rng, count)
+        run = b""
+        for formula in formulas:
+            room = rng.randrange(120, 130)
+            length, buffer = write_record(formula, buffer_beforehand(room))
+            tally.same("the rest stays", buffer[length:],
+                       buffer_beforehand(room)[length:])
+            run += buffer[:length]
+        room = len(run) + 16 + rng.randrange(3)
+        length, buffer = write_sheet(run, buffer_beforehand(room))
+        sheet = buffer[:length]
+        tally.same("length", length, len(run) + 16)
+        tally.same("the rest stays", buffer[length:],
+                   buffer_beforehand(room)[length:])
+        tally.same("reading undoes writing", read(sheet), formulas)
+        tally.same("writing undoes reading", sheet_of(read(sheet)), sheet)
+        formula = rng.choice(formulas)
+        tally.same("asked", formula_of(sheet, formula.number), formula)
+
+
+def check_writers(tally, rng):
+    """The writers' refusals and their order, and the buffer when refused."""
+    good = good_formula(rng, RATIONAL, p=2, q=2)
+    long_words = good.words + (NO_WORD,) * 28
+    for fields, room, number in (
+            (good._replace(kind=START, p=0, lo=NO_WORD), 0, 3),
+            (good._replace(p=0, lo=NO_WORD), 0, 2),
+            (good._replace(p=13, lo=NO_WORD), 0, 2),
+            (good._replace(q=65535, lo=NO_WORD), 0, 2),
+            (good._replace(lo=M, hi=-M), 0, 6),
+            (good._replace(lo=0, hi=0, words=(1, 1, 0, 1)), 0, 8),
+            (good._replace(lo=-M, hi=M, words=(M, M, 0, 1)), 0, 7),
+            (good, 35, 12), (good, 36, 0),
+            (good._replace(mode=9, words=long_words), 36, 0)):
+        found = answer_to(*ask_record(fields, room))
+        expected = number, bytes(4), 4 * b"\0" + buffer_beforehand(room)
+        if number == 0:
+            expected = 0, bytes(4), b"\x24\0\0\0" + record_of(good)
+        tally.same("record writer", (found[0], found[1:5], found[5:]),
+                   expected)
+    first = root_record(1)
+    most = b"".join(map(root_record, range(64)))
+    for run, room, number, place in (
+            (b"", 0, 4, 0), (b"\0", 0, 1, 8), (first + bytes(3), 0, 1, 24),
+            (first + bytes(4), 0, 2, 24), (first + first[:7], 0, 1, 24),
+            (first + first[:15], 0, 1, 24), (first + first, 0, 5, 24),
+            (framing(START, 1, 9) + b"\0", 0, 3, 8),
+            (framing(END, 1), 0, 3, 8),
+            (framing(START, 1) + first + framing(END, 1), 90, 3, 8),
+            (first + root_record(2, -1), 0, 6, 24), (first, 31, 12, 0),
+            (most + first[:3], 9, 1, 8 + 64 * 16),
+            (most + root_record(64), 0, 4, 8 + 64 * 16),
+            (most + root_record(3, -1), 0, 4, 8 + 64 * 16),
+            (most + cut_record(root_record(64), 15), 0, 2, 8 + 64 * 16),
+            (most + framing(END, 1), 0, 3, 8 + 64 * 16)):
+        found = answer_to(*ask_sheet(run, room))
+        expected = bytes([number]) + place.to_bytes(4, "little") + bytes(4)
+        tally.same(f"sheet writer {number} {place}", found,
+                   expected + buffer_beforehand(room))
+
+
+def check_vectors(tally, rng):
+    """The committed vectors are this oracle's answers, and every refusal that
+    a question has is among them."""
+    packed = Path(__file__).with_name("vectors.xz").read_bytes()
+    met = set()
+    count = 0
+    for question, content, found in taken_apart(lzma.decompress(packed)):
+        tally.same(f"vector {count}", found, answer_to(question, content))
+        met.add((question, found[0]))
+        count += 1
+    tally.same("at least 10,000 vectors", count >= 10000, True)
+    sheet = range(10)
+    for question, numbers in (
+            (1, sheet), (2, (*sheet, 11)), (3, (*sheet, 10, 11)),
+            (4, (*sheet, 10, 11, 13)), (5, (*sheet, 11)),
+            (6, (0, 2, 3, 6, 7, 8, 12)), (7, (*range(9), 12))):
+        tally.same(f"question {question}", sorted(
+            number for asked, number in met if asked == question),
+            sorted(numbers))
+
+
+CHECKS = (check_by_hand, check_arithmetic, check_formulas, check_doubles,
+          check_order, check_questions, check_round_trips, check_writers,
+          check_vectors)
+
+
+def main():
+    tally = Tally()
+    for check in CHECKS:
+        before = tally.passed
+        check(tally, Random(check.__name__))
+        print(f"{check.__name__}: {tally.passed - before}")
+    print(f"{tally.passed} passed, {tally.failed} failed")
+    return 0 if tally.failed == 0 else 1
+
+
+if __name__ == "__main__":
+    sys.exit(main())

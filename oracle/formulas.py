@@ -1,0 +1,174 @@
+"""The four formula kinds: their shape, their answer and their admission.
+
+Paper 01, 'Formula kinds', 'Admission' and the table of 'Sheet layout'.
+"""
+
+from typing import NamedTuple
+
+from number import (
+    M, bound_product, bound_quotient, is_word, product, quotient, root)
+
+POLYNOMIAL = 0x0010
+RATIONAL = 0x0011
+FRACTION = 0x0012
+ROOT = 0x0013
+
+
+class Formula(NamedTuple):
+    """A formula's fields; one that the kind has not is 0.
+
+    p is the count of a polynomial, the count of a rational's numerator or the
+    depth of a fraction; q is the count of a rational's divisor. The words are
+    the coefficients in stored order.
+    """
+
+    kind: int
+    number: int
+    lo: int
+    hi: int
+    p: int
+    q: int
+    mode: int
+    words: tuple
+
+
+class Shape(NamedTuple):
+    """A row of the table of 'Sheet layout'."""
+
+    head: int  # bytes before the first coefficient
+    p: range  # what p may be
+    q: range  # what q may be
+
+
+ABSENT = range(0, 1)
+
+SHAPES = {
+    POLYNOMIAL: Shape(16, range(1, 17), ABSENT),
+    RATIONAL: Shape(20, range(1, 13), range(1, 13)),
+    FRACTION: Shape(20, range(1, 13), ABSENT),
+    ROOT: Shape(16, ABSENT, ABSENT),
+}
+
+
+def counts_in_range(kind, p, q):
+    return p in SHAPES[kind].p and q in SHAPES[kind].q
+
+
+def word_count(kind, p, q):
+    """How many coefficients a formula of these counts stores."""
+    return 2 * p + 1 if kind == FRACTION else p + q
+
+
+def record_length(kind, p, q):
+    return SHAPES[kind].head + 4 * word_count(kind, p, q)
+
+
+def values_are_good(formula):
+    """Refusal 6 is given where this does not hold."""
+    return (
+        all(is_word(n) for n in (formula.lo, formula.hi, *formula.words))
+        and formula.lo <= formula.hi
+        and formula.mode <= 2
+        and (formula.kind != ROOT or formula.lo >= 0)
+    )
+
+
+# Answers ('Formula kinds').
+
+
+def polynomial(words, x):
+    running = words[-1]
+    for c in reversed(words[:-1]):
+        running = c + product(running, x)
+    return running
+
+
+def factor(mode, j, x, s):
+    """v_j of a fraction: x or s. Admission asks it for the bound of v_j."""
+    return x if mode == 0 or (mode == 2 and j == 1) else s
+
+
+def fraction(words, depth, mode, x):
+    """The words are b0, a1, b1, a2, ...: b_j is words[2j], a_j words[2j-1]."""
+    s = product(x, x)
+    t = words[2 * depth]
+    for j in range(depth, 0, -1):
+        a, b = words[2 * j - 1], words[2 * j - 2]
+        t = b + quotient(product(a, factor(mode, j, x, s)), t)
+    return t
+
+
+def answer(formula, x):
+    """The answer of an admitted formula for a word x of its interval."""
+    words, p = formula.words, formula.p
+    if formula.kind == POLYNOMIAL:
+        return polynomial(words, x)
+    if formula.kind == RATIONAL:
+        return quotient(polynomial(words[:p], x), polynomial(words[p:], x))
+    if formula.kind == FRACTION:
+        return fraction(words, p, formula.mode, x)
+    return root(x)
+
+
+# Admission: each function gives 0, or the refusal 7 or 8 that it meets first.
+
+
+def bounds(words, a):
+    """The bounds B_0 to B_n of a polynomial where |x| is at most a."""
+    upward = [abs(words[-1])]
+    for c in reversed(words[:-1]):
+        upward.append(abs(c) + bound_product(upward[-1], a))
+    return upward[::-1]
+
+
+def polynomial_admission(words, a):
+    return 7 if max(bounds(words, a)) > M else 0
+
+
+def rational_admission(numerator, divisor, a):
+    if polynomial_admission(numerator, a) or polynomial_admission(divisor, a):
+        return 7
+    least = abs(divisor[0])
+    if len(divisor) > 1:
+        least -= bound_product(bounds(divisor, a)[1], a)
+    if least < 1:
+        return 8
+    return 7 if bound_quotient(bounds(numerator, a)[0], least) > M else 0
+
+
+def fraction_admission(words, depth, mode, a):
+    s = bound_product(a, a)
+    if mode != 0 and s > M:
+        return 7
+    least = abs(words[2 * depth])
+    if least < 1:
+        return 8
+    for j in range(depth, 0, -1):
+        g = bound_product(abs(words[2 * j - 1]), factor(mode, j, a, s))
+        if g > M:
+            return 7
+        q = bound_quotient(g, least)
+        b = abs(words[2 * j - 2])
+        if b + q > M:
+            return 7
+        least = b - q
+        if j > 1 and least < 1:
+            return 8
+    return 0
+
+
+def admission(formula):
+    words, p = formula.words, formula.p
+    a = max(abs(formula.lo), abs(formula.hi))
+    if formula.kind == POLYNOMIAL:
+        return polynomial_admission(words, a)
+    if formula.kind == RATIONAL:
+        return rational_admission(words[:p], words[p:], a)
+    if formula.kind == FRACTION:
+        return fraction_admission(words, p, formula.mode, a)
+    return 0
+
+
+def verdict(formula):
+    """0, or the refusal 6, 7 or 8 of a formula whose counts are in range."""
+    return admission(formula) if values_are_good(formula) else 6

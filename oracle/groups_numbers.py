@@ -1,0 +1,376 @@
+"""Groups of vectors aimed at the arithmetic, admission and the door."""
+
+from math import isqrt
+
+from by_hand import ADMISSIONS, ANSWERS, LISTED, REFUSED
+from door import pattern_of
+from formulas import (
+    FRACTION, POLYNOMIAL, RATIONAL, ROOT, Formula, bounds, factor)
+from makers import (
+    arguments, good_formula, near_one, sheet_of, signed, size, word)
+from number import M, NO_WORD, ONE, bound_product, bound_quotient
+from questions import (
+    ask_count, ask_double, ask_evaluate, ask_formula, ask_interval)
+
+
+def polynomial(words, lo, hi):
+    return Formula(POLYNOMIAL, 1, lo, hi, len(words), 0, 0, tuple(words))
+
+
+def rational(numerator, divisor, lo, hi):
+    return Formula(RATIONAL, 1, lo, hi, len(numerator), len(divisor), 0,
+                   (*numerator, *divisor))
+
+
+def fraction(words, mode, lo, hi):
+    return Formula(FRACTION, 1, lo, hi, len(words) // 2, 0, mode, tuple(words))
+
+
+def largest(formula):
+    """A of Admission."""
+    return max(abs(formula.lo), abs(formula.hi))
+
+
+def judged(rng, formula):
+    """The count, and an answer at a place of the interval, mostly an end."""
+    sheet = sheet_of([formula])
+    yield ask_count(sheet)
+    yield ask_evaluate(sheet, formula.number, rng.choice(
+        (formula.lo, formula.hi, rng.randrange(formula.lo, formula.hi + 1))))
+
+
+def checked_by_hand(rng):
+    """The rows of the paper's table, and its listing program's sheets."""
+    for formula, argument, _ in ANSWERS:
+        yield ask_evaluate(sheet_of([formula]), 1, argument)
+        yield ask_double(sheet_of([formula]), 1, pattern_of(argument))
+    for formula, _ in ADMISSIONS:
+        yield from judged(rng, formula)
+    yield ask_count(LISTED)
+    yield ask_formula(LISTED, 1)
+    yield ask_interval(LISTED, 1)
+    for sheet, _, _ in REFUSED:
+        yield ask_count(sheet)
+
+
+# Admission.
+
+
+def polynomial_limits(rng):
+    """One bound B_k of a polynomial is exactly M, or one step above it (7);
+    the coefficients below it are 0."""
+    for _ in range(250):
+        upper = good_formula(rng, POLYNOMIAL, p=1 + rng.randrange(8))
+        a = largest(upper)
+        below = rng.randrange(8) if a <= ONE else 0
+        rest = M - bound_product(bounds(upper.words, a)[0], a)
+        for c in (rest, rest + 1):
+            if 0 <= c <= M:
+                words = [0] * below + [signed(rng, c)] + list(upper.words)
+                yield from judged(rng, polynomial(words, upper.lo, upper.hi))
+
+
+def values_between_the_ends(rng):
+    """Small at lo and hi, too large between by the bounds, or nearly so."""
+    for scale in range(100, 140):
+        c = scale * ONE // 2
+        for words in ((c, 0, -c), (0, c, 0, -c), (c, -c, -c, c)):
+            if abs(c) <= M:
+                yield from judged(rng, polynomial(words, -ONE, ONE))
+
+
+def rational_limits(rng):
+    """L of a rational at 2, 1, 0 and -1 (8), under numerators at the bound
+    quotient's limit, one step above it (7) and beyond their own bounds (7)."""
+    for _ in range(60):
+        upper = good_formula(rng, POLYNOMIAL, p=1 + rng.randrange(6))
+        lo, hi, a = upper.lo, upper.hi, largest(upper)
+        taken = bound_product(bounds(upper.words, a)[0], a)
+        for least in (2, 1, 0, -1):
+            if 0 <= taken + least <= M:
+                divisor = (signed(rng, taken + least), *upper.words)
+                limit = M * max(least, 0) // ONE
+                for n in ((limit,), (limit + 1,), (M, M), (0, 0)):
+                    yield from judged(rng, rational(n, divisor, lo, hi))
+
+
+def quotient_limits(rng):
+    """The bound quotient of a rational exactly at the limit and one numerator
+    step above it (7), for divisors of every size and sign."""
+    for _ in range(150):
+        d = signed(rng, 1 + size(rng, 2 * ONE))
+        limit = M * abs(d) // ONE
+        lo, hi = sorted((near_one(rng), near_one(rng)))
+        for n in (limit - 1, limit, limit + 1):
+            if 0 <= n <= M:
+                yield from judged(
+                    rng, rational((signed(rng, n),), (d,), lo, hi))
+
+
+def seven_and_eight_in_rationals(rng):
+    """The divisor's bound above M (7) where L is large, where L is not above
+    0 (8), and where the numerator's bound is above M too."""
+    for a in (0, 1, ONE // 2, ONE, ONE + 1, M):
+        for d0 in (0, 1, M // 2, M):
+            for d1 in (0, 1, M // 2, M):
+                for n in ((1,), (M,), (M, 1), (1, M)):
+                    yield from judged(
+                        rng, rational(n, (-d0, d1), -a, a))
+
+
+def quotient_bounds(formula):
+    """Q of a good fraction for each j, the innermost first."""
+    words, a = formula.words, largest(formula)
+    s = bound_product(a, a)
+    least = abs(words[2 * formula.p])
+    for j in range(formula.p, 0, -1):
+        v = factor(formula.mode, j, a, s)
+        q = bound_quotient(bound_product(abs(words[2 * j - 1]), v), least)
+        yield j, q
+        least = abs(words[2 * j - 2]) - q
+
+
+def fraction_limits(rng):
+    """At every j of good fractions: |b| - Q at 2, 1 and 0 (8 for j above 1),
+    |b| + Q at M and one step above it (7); the terms outside it as they were
+    or without effect."""
+    for depth in (1, 2, 3, 4, 7, 12):
+        for mode in range(3):
+            formula = good_formula(rng, FRACTION, p=depth, mode=mode)
+            for j, q in quotient_bounds(formula):
+                for b in (q, q + 1, q + 2, M - q, M - q + 1):
+                    if b <= M:
+                        words = list(formula.words)
+                        words[2 * j - 2] = signed(rng, b)
+                        changed = formula._replace(words=tuple(words))
+                        yield ask_count(sheet_of([changed]))
+                        words[:2 * j - 2] = [1, 0] * (j - 1)
+                        changed = formula._replace(words=tuple(words))
+                        yield from judged(rng, changed)
+
+
+def products_in_fractions(rng):
+    """G of a fraction at M and one coefficient step above it (7), at each j,
+    with every b large; and the same with the innermost b 0 (8 or 7)."""
+    for mode in range(3):
+        for a in (ONE, ONE + 1, 2 * ONE, 3 * ONE + 7):
+            s = bound_product(a, a)
+            for depth in (1, 2, 3):
+                for j in range(1, depth + 1):
+                    limit = M * ONE // factor(mode, j, a, s)
+                    for coefficient in (limit, limit + 1):
+                        words = [M // 2, 1] * depth + [M]
+                        words[2 * j - 1] = min(coefficient, M)
+                        yield from judged(rng, fraction(words, mode, -a, a))
+                        words[-1] = 0
+                        yield from judged(rng, fraction(words, mode, -a, a))
+
+
+def squares_in_fractions(rng):
+    """S at M and above it (7), which mode 0 does not form; with the innermost
+    b 0 as well (8 only where S has not given 7)."""
+    a = isqrt(M * ONE)
+    for lo, hi in ((-a, a), (-a - 1, 0), (0, a + 1), (0, a), (-M, M), (-M, 0)):
+        for mode in range(3):
+            for depth in (1, 2):
+                for inner in (0, 1, -ONE):
+                    for upper in (0, 1):
+                        words = [ONE, upper] * depth + [inner]
+                        yield from judged(rng, fraction(words, mode, lo, hi))
+
+
+# Arithmetic.
+
+
+def product_ties(rng):
+    """Products of both signs that are ties, or one step beside a tie."""
+    for _ in range(300):
+        twos = rng.randrange(24)
+        c = signed(rng, 2 * size(rng, 1 << 8) + 1 << twos)
+        x = 2 * size(rng, 1 << 10) + 1 << 23 - twos
+        if abs(c) <= M and x < M and abs(c * x) <= M * ONE:
+            sheet = sheet_of([polynomial((0, c), -x, x)])
+            yield ask_evaluate(sheet, 1, x)
+            yield ask_evaluate(sheet, 1, -x)
+            yield ask_evaluate(sheet, 1, x - 1)
+            yield ask_evaluate(sheet, 1, 1 - x)
+
+
+def quotient_ties(rng):
+    """Quotients of all four pairs of signs that are ties, or beside a tie."""
+    for _ in range(120):
+        twos = 25 + rng.randrange(6)
+        odd = 2 * size(rng, (M >> twos) - 1 >> 1) + 1
+        d = odd << twos
+        n = odd * (2 * size(rng, 1 << 12) + 1) << twos - 25
+        for numerator in (n, -n, n + 1, 1 - n):
+            for divisor in (d, -d):
+                if abs(numerator) <= M:
+                    formula = rational((numerator,), (divisor,), 0, 0)
+                    yield ask_evaluate(sheet_of([formula]), 1, 0)
+
+
+def quotients(rng):
+    """Quotients of an argument by words of every size and of both signs."""
+    for _ in range(120):
+        d = signed(rng, 1 + size(rng, M - 1))
+        a = min(M * abs(d) // ONE, M)
+        sheet = sheet_of([rational((0, ONE), (d,), -a, a)])
+        for _ in range(4):
+            yield ask_evaluate(sheet, 1, signed(rng, size(rng, a)))
+
+
+def roots(rng):
+    """Roots of squares, of one less and of one more; of 0 and of the largest
+    word; of any word not below 0."""
+    sheet = sheet_of([Formula(ROOT, 1, 0, M, 0, 0, 0, ())])
+    sides = [0, 1, 2, 3, 4095, 4096, 4097, 32768, 46339, 46340]
+    sides += [rng.randrange(46341) for _ in range(100)]
+    for side in sides:
+        for x in (side * side - 1, side * side, side * side + 1):
+            yield ask_evaluate(sheet, 1, x)
+    for x in (M, M - 1, ONE, ONE - 1, ONE + 1, 2 * ONE, NO_WORD):
+        yield ask_evaluate(sheet, 1, x)
+    for _ in range(200):
+        yield ask_evaluate(sheet, 1, size(rng))
+    for lo, hi in ((0, 0), (1, 1), (M, M), (-1, 0), (-1, -1), (0, M), (-M, M)):
+        root = Formula(ROOT, 1, lo, hi, 0, 0, 0, ())
+        yield from judged(rng, root)
+
+
+def fractions(rng):
+    """Continued fractions of each depth and mode at arguments of all sizes,
+    with coefficients of all sizes and with a tangent's."""
+    for depth in range(1, 13):
+        for mode in range(3):
+            drawn = good_formula(rng, FRACTION, p=depth, mode=mode)
+            words = [0, ONE, ONE]
+            for j in range(2, depth + 1):
+                words += [-ONE, (2 * j - 1) * ONE]
+            for formula in (drawn, fraction(words, mode, -ONE // 4, ONE // 4)):
+                sheet = sheet_of([formula])
+                for argument in arguments(rng, formula):
+                    yield ask_evaluate(sheet, 1, argument)
+
+
+def long_polynomials(rng):
+    """Polynomials and rationals with coefficients near one, where every
+    rounding on the way counts."""
+    for _ in range(80):
+        words = [near_one(rng) for _ in range(2 + rng.randrange(15))]
+        sheet = sheet_of([polynomial(words, -ONE, ONE)])
+        for _ in range(3):
+            yield ask_evaluate(sheet, 1, rng.randrange(-ONE, ONE + 1))
+    for _ in range(80):
+        n = [near_one(rng) for _ in range(1 + rng.randrange(12))]
+        d = [near_one(rng) >> k + 2 for k in range(1 + rng.randrange(12))]
+        d[0] = signed(rng, 2 * ONE + size(rng, ONE))
+        sheet = sheet_of([rational(n, d, -ONE // 2, ONE // 2)])
+        for _ in range(3):
+            yield ask_evaluate(sheet, 1, rng.randrange(-ONE // 2, ONE // 2))
+
+
+# The door.
+
+IDENTITY = polynomial((0, ONE), -M, M)
+MINUS_ZERO = 1 << 63
+INFINITY = 0x7FF << 52
+
+
+def both_signs(pattern):
+    return pattern, pattern | MINUS_ZERO
+
+
+def doubles_at_steps(rng):
+    """Doubles that are exact steps, ties of both signs, and next to a tie:
+    the identity shows the word that each becomes."""
+    sheet = sheet_of([IDENTITY])
+    for _ in range(150):
+        n = word(rng)
+        tie = pattern_of(2 * n + 1, -25)
+        for pattern in (pattern_of(n), tie - 1, tie, tie + 1):
+            yield ask_double(sheet, 1, pattern)
+
+
+def doubles_at_the_ends(rng):
+    """Doubles at each end of an interval, half a step inside and outside it,
+    and next to those."""
+    for _ in range(40):
+        formula = good_formula(rng, rng.choice((POLYNOMIAL, ROOT)), p=1)
+        for formula in (formula, IDENTITY._replace(
+                lo=formula.lo, hi=formula.hi)):
+            sheet = sheet_of([formula])
+            yield ask_interval(sheet, 1)
+            for end in (formula.lo, formula.hi):
+                yield ask_double(sheet, 1, pattern_of(end))
+                for half in (2 * end - 1, 2 * end + 1):
+                    pattern = pattern_of(half, -25)
+                    for near in (pattern - 1, pattern, pattern + 1):
+                        yield ask_double(sheet, 1, near)
+
+
+def special_doubles(rng):
+    """Zeros, subnormals, the least and greatest normal doubles, infinities and
+    what is not a number, quiet and signalling, of both signs; with the number
+    there and not there, and with a sheet that is refused."""
+    patterns = (
+        0, 1, 2, 1 << 51, (1 << 52) - 1, 1 << 52, (1 << 52) + 1,
+        INFINITY - 1, INFINITY - (1 << 52), INFINITY, INFINITY + 1,
+        INFINITY + (1 << 51) - 1, INFINITY + (1 << 51),
+        INFINITY + (1 << 51) + 1, INFINITY + (1 << 52) - 1)
+    narrow = IDENTITY._replace(lo=1, hi=ONE)
+    constant = polynomial((-ONE,), -1, 0)
+    for formula in (IDENTITY, narrow, constant):
+        sheet = sheet_of([formula])
+        for pattern in patterns:
+            for either in both_signs(pattern):
+                yield ask_double(sheet, 1, either)
+                yield ask_double(sheet, 2, either)
+                yield ask_double(sheet[:-1], 1, either)
+
+
+def largest_doubles(rng):
+    """Doubles about 2^31 steps, about the largest word, and far beyond."""
+    sheet = sheet_of([IDENTITY])
+    for halves in (1 << 32, (1 << 32) - 1, (1 << 32) - 2, (1 << 32) - 3,
+                   (1 << 32) + 1, 1 << 33):
+        pattern = pattern_of(halves, -25)
+        for near in (pattern - 1, pattern, pattern + 1):
+            for either in both_signs(near):
+                yield ask_double(sheet, 1, either)
+    for power in range(-80, 80):
+        for either in both_signs(pattern_of(1, power)):
+            yield ask_double(sheet, 1, either)
+
+
+def random_doubles(rng):
+    """Any patterns at all, and patterns whose value is about a word's."""
+    sheet = sheet_of([IDENTITY])
+    for _ in range(300):
+        yield ask_double(sheet, 1, rng.getrandbits(64))
+        exponent = 1023 - 27 + rng.randrange(36)
+        pattern = exponent << 52 | rng.getrandbits(52)
+        yield ask_double(sheet, 1, rng.choice(both_signs(pattern)))
+
+
+def doubles_through_formulas(rng):
+    """Answers as doubles, of every kind, with plus zero among them."""
+    for kind in (POLYNOMIAL, RATIONAL, FRACTION, ROOT) * 20:
+        formula = good_formula(rng, kind)
+        sheet = sheet_of([formula])
+        yield ask_interval(sheet, 1)
+        for argument in arguments(rng, formula):
+            yield ask_double(sheet, 1, pattern_of(argument))
+    for words in ((0,), (0, 0), (0, 1), (0, -1)):
+        sheet = sheet_of([polynomial(words, -ONE // 4, ONE // 4)])
+        for argument in (-ONE // 4, -1, 0, 1, ONE // 4):
+            yield ask_double(sheet, 1, pattern_of(argument))
+
+
+GROUPS = (
+    checked_by_hand, polynomial_limits, values_between_the_ends,
+    rational_limits, quotient_limits, seven_and_eight_in_rationals,
+    fraction_limits, products_in_fractions, squares_in_fractions,
+    product_ties, quotient_ties, quotients, roots, fractions,
+    long_polynomials, doubles_at_steps, doubles_at_the_ends, special_doubles,
+    largest_doubles, random_doubles, doubles_through_formulas)

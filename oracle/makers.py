@@ -1,0 +1,135 @@
+"""Makers of words, formulas and sheets for the vectors, from a random.Random.
+
+Only whole-number draws are used (getrandbits, randrange, choice).
+"""
+
+from struct import pack
+
+from formulas import (
+    FRACTION, ROOT, SHAPES, Formula, factor, verdict, word_count)
+from number import M, ONE, bound_product, bound_quotient
+from sheet import END, START
+from writing import record_of, start_or_end
+
+KINDS = tuple(SHAPES)
+EDGES = (0, 1, -1, 2, ONE // 2, -ONE // 2, ONE, -ONE, ONE - 1, ONE + 1, M - 1,
+         1 - M, M, -M)
+
+
+def signed(rng, n):
+    return rng.choice((n, -n))
+
+
+def size(rng, most=M):
+    """A whole number from 0 to `most`, of any count of digits alike."""
+    return min(rng.getrandbits(rng.randrange(32)), most)
+
+
+def word(rng):
+    if rng.randrange(8) == 0:
+        return rng.choice(EDGES)
+    return signed(rng, size(rng))
+
+
+def near_one(rng):
+    """A word between -4 and 4, as most printed coefficients are."""
+    return rng.randrange(-4 * ONE, 4 * ONE + 1)
+
+
+def interval(rng, kind):
+    style = rng.randrange(4)
+    if style == 0:
+        lo, hi = -ONE, ONE
+    elif style == 1:
+        lo = hi = word(rng)
+    else:
+        lo, hi = sorted((word(rng), word(rng)))
+    return (min(abs(lo), abs(hi)), abs(hi)) if kind == ROOT else (lo, hi)
+
+
+def fraction_words(rng, depth, mode, a):
+    """b0, a1, b1, ... that Admission takes where |x| is at most a."""
+    s = bound_product(a, a)
+    least = 1 + size(rng, M - 1)
+    words = [signed(rng, least)]
+    for j in range(depth, 0, -1):
+        v = factor(mode, j, a, s)
+        upper = abs(word(rng))
+        while bound_quotient(bound_product(upper, v), least) >= M // 2:
+            upper //= 2
+        q = bound_quotient(bound_product(upper, v), least)
+        least = 1 + size(rng, M - 2 * q - 1)
+        words += [signed(rng, upper), signed(rng, q + least)]
+    return tuple(reversed(words))
+
+
+def every_shape():
+    """Every kind with every count, depth and mode that it may have."""
+    for kind, shape in SHAPES.items():
+        for p in shape.p:
+            for q in shape.q:
+                for mode in range(3) if kind == FRACTION else (0,):
+                    yield {"kind": kind, "p": p, "q": q, "mode": mode}
+
+
+def good_formula(rng, kind, number=1, p=None, q=None, mode=None):
+    """An accepted formula. A count or mode not given is drawn, and one that
+    the kind has not is 0."""
+    shape = SHAPES[kind]
+    if p not in shape.p:
+        p = rng.choice(shape.p)
+    if q not in shape.q:
+        q = rng.choice(shape.q)
+    if mode is None or kind != FRACTION:
+        mode = rng.randrange(3) if kind == FRACTION else 0
+    while True:
+        lo, hi = interval(rng, kind)
+        if kind == FRACTION:
+            words = fraction_words(rng, p, mode, max(abs(lo), abs(hi)))
+        else:
+            draw = rng.choice((word, near_one))
+            words = tuple(draw(rng) for _ in range(word_count(kind, p, q)))
+        formula = Formula(kind, number, lo, hi, p, q, mode, words)
+        if verdict(formula) == 0:
+            return formula
+
+
+def good_formulas(rng, count):
+    """Accepted formulas of any kinds, with strictly rising numbers."""
+    numbers = set()
+    while len(numbers) < count:
+        numbers.add(rng.choice((rng.randrange(100), rng.randrange(65536))))
+    return [good_formula(rng, rng.choice(KINDS), number)
+            for number in sorted(numbers)]
+
+
+def records_of(formulas):
+    """The formulas' records; like all below, of good formulas and of bad."""
+    return [record_of(formula) for formula in formulas]
+
+
+def framed(records):
+    """The records of a sheet: these, with a start and an end around them."""
+    count = len(records)
+    return [start_or_end(START, count), *records, start_or_end(END, count)]
+
+
+def run_of(formulas):
+    return b"".join(records_of(formulas))
+
+
+def sheet_of(formulas):
+    return b"".join(framed(records_of(formulas)))
+
+
+def arguments(rng, formula):
+    """lo, hi, two between, and the argument just outside each end."""
+    lo, hi = formula.lo, formula.hi
+    inside = [lo, hi, rng.randrange(lo, hi + 1), rng.randrange(lo, hi + 1)]
+    return inside + [lo - 1] + ([hi + 1] if hi < M else [])
+
+
+def with_field(record, at, form, value):
+    """The record with one little-endian field replaced."""
+    field = pack("<" + form, value)
+    return record[:at] + field + record[at + len(field):]

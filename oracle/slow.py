@@ -1,0 +1,154 @@
+"""Slow, obvious definitions for the self-test, in exact fractions.
+
+Each follows the paper's sentence word by word and shares no arithmetic with
+the modules it is compared with.
+"""
+
+from fractions import Fraction
+
+from formulas import FRACTION, POLYNOMIAL, RATIONAL
+
+STEPS = 2**24
+LARGEST = 2**31 - 1
+
+
+def nearest(value):
+    """'Rounded to the nearest whole number, a tie going upward.'"""
+    below = value.numerator // value.denominator
+    return below if value - below < below + 1 - value else below + 1
+
+
+def upward(value):
+    """'The same with rounding up instead.'"""
+    below = value.numerator // value.denominator
+    return below if below == value else below + 1
+
+
+def product(a, b):
+    return nearest(Fraction(a * b, STEPS))
+
+
+def quotient(a, d):
+    return nearest(Fraction(a * STEPS, d))
+
+
+def bound_product(a, b):
+    return upward(Fraction(a * b, STEPS))
+
+
+def bound_quotient(a, d):
+    return upward(Fraction(a * STEPS, d))
+
+
+def root(x):
+    """'The largest whole r with r² not above x·2^24', bit after bit."""
+    r = 0
+    for bit in reversed(range(32)):
+        if (r + 2**bit) ** 2 <= x * STEPS:
+            r += 2**bit
+    return r
+
+
+def polynomial(c, x):
+    return c[0] if len(c) == 1 else c[0] + product(polynomial(c[1:], x), x)
+
+
+def fraction(b_and_a, v):
+    """b0, a1, b1, ... with v1, v2, ...; the rest is a fraction of its own."""
+    if not v:
+        return b_and_a[0]
+    b, a, *rest = b_and_a
+    return b + quotient(product(a, v[0]), fraction(rest, v[1:]))
+
+
+def factors(mode, depth, x, s):
+    return {0: [x] * depth, 1: [s] * depth, 2: [x] + [s] * (depth - 1)}[mode]
+
+
+def answer(formula, x):
+    words, p = formula.words, formula.p
+    if formula.kind == POLYNOMIAL:
+        return polynomial(words, x)
+    if formula.kind == RATIONAL:
+        return quotient(polynomial(words[:p], x), polynomial(words[p:], x))
+    if formula.kind == FRACTION:
+        return fraction(words, factors(formula.mode, p, x, product(x, x)))
+    return root(x)
+
+
+class Left(Exception):
+    """'Above M gives 7.'"""
+
+
+class Zero(Exception):
+    """'Below 1 gives 8.'"""
+
+
+def inside(bound):
+    if bound > LARGEST:
+        raise Left
+    return bound
+
+
+def above_zero(least):
+    if least < 1:
+        raise Zero
+    return least
+
+
+def bound(c, a):
+    """B_0 of the coefficients, every B on the way held inside."""
+    if len(c) == 1:
+        return inside(abs(c[0]))
+    return inside(abs(c[0]) + bound_product(bound(c[1:], a), a))
+
+
+def admit_fraction(b_and_a, v):
+    """The least that |b0| leaves; every L inside it is held above zero."""
+    if not v:
+        return abs(b_and_a[0])
+    b, a, *rest = b_and_a
+    least = above_zero(admit_fraction(rest, v[1:]))
+    q = bound_quotient(inside(bound_product(abs(a), v[0])), least)
+    inside(abs(b) + q)
+    return abs(b) - q
+
+
+def admit(formula):
+    words, p = formula.words, formula.p
+    a = max(abs(formula.lo), abs(formula.hi))
+    if formula.kind == POLYNOMIAL:
+        bound(words, a)
+    elif formula.kind == RATIONAL:
+        numerator, divisor = bound(words[:p], a), words[p:]
+        bound(divisor, a)
+        taken = 0
+        if len(divisor) > 1:
+            taken = bound_product(bound(divisor[1:], a), a)
+        inside(bound_quotient(numerator, above_zero(abs(divisor[0]) - taken)))
+    elif formula.kind == FRACTION:
+        s = bound_product(a, a)
+        if formula.mode > 0:
+            inside(s)
+        admit_fraction(words, factors(formula.mode, p, a, s))
+
+
+def admission(formula):
+    try:
+        admit(formula)
+    except Left:
+        return 7
+    except Zero:
+        return 8
+    return 0
+
+
+def value(pattern):
+    """The exact value of a finite double, from sign, exponent and fraction."""
+    bits = f"{pattern:064b}"
+    sign, exponent, digits = bits[0], int(bits[1:12], 2), int(bits[12:], 2)
+    if exponent == 0:
+        size = Fraction(digits, 2**1074)
+    else:
+        size = (1 + Fraction(digits, 2**52)) * Fraction(2) ** (exponent - 1023)
+    return -size if sign == "1" else size
