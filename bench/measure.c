@@ -3,6 +3,7 @@
    The answers are compared in both; a difference ends the program with status 1. */
 #include "plain.h"
 #include "mark.h"
+#include "sheets.h"
 int printf(const char *, ...);
 enum { N = 1000, ROUNDS = 41, PLACES = 24 };
 static word near_one[N], about_one[N], positive[N];
@@ -48,5 +49,8 @@ int main(void) {
     ROW("rational, 3 over 3", plain_rational(top, 3, bottom, 3, near_one[i], s), measured_rational(top, 3, bottom, 3, near_one[i], s));
     ROW("fraction, depth 7", plain_fraction(tangent, 7, 2, near_one[i], s), measured_fraction(tangent, 7, 2, near_one[i], s));
     ROW("root", plain_root(positive[i], s), measured_root(positive[i], s));
+    ROW("sheet of 64 formulas", plain_count(all_sheet, sizeof all_sheet), measured_count(all_sheet, sizeof all_sheet));
+    ROW("one polynomial's sheet", plain_evaluate(sine_sheet, sizeof sine_sheet, 12, near_one[i]), measured_evaluate(sine_sheet, sizeof sine_sheet, 12, near_one[i]));
+    ROW("one fraction's sheet", plain_evaluate(tangent_sheet, sizeof tangent_sheet, 54, near_one[i] / 2), measured_evaluate(tangent_sheet, sizeof tangent_sheet, 54, near_one[i] / 2));
     return 0;
 }

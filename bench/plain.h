@@ -9,6 +9,8 @@ word plain_polynomial(const word *c, unsigned long n, word x, unsigned s);
 word plain_rational(const word *p, unsigned long np, const word *q, unsigned long nq, word x, unsigned s);
 word plain_fraction(const word *c, unsigned long k, unsigned mode, word x, unsigned s);
 word plain_root(word x, unsigned s);
+unsigned short plain_count(const unsigned char *sheet, unsigned long n);
+word plain_evaluate(const unsigned char *sheet, unsigned long n, unsigned short number, word x);
 
 /* the proved ones: a slice is a pointer and a length */
 wide measured_product(word a, word b, unsigned s);
@@ -17,4 +19,6 @@ word measured_polynomial(const word *c, unsigned long n, word x, unsigned s);
 word measured_rational(const word *p, unsigned long np, const word *q, unsigned long nq, word x, unsigned s);
 word measured_fraction(const word *c, unsigned long k, unsigned mode, word x, unsigned s);
 word measured_root(word x, unsigned s);
+unsigned short measured_count(const unsigned char *sheet, unsigned long n);
+word measured_evaluate(const unsigned char *sheet, unsigned long n, unsigned short number, word x);
 #endif

@@ -1,10 +1,8 @@
 -- Demand 3: a formula in an accepted sheet answers every argument in its own interval, by its kind's rule, and refuses every other by 10.
 -- `Answered s n` says that the sheet s is accepted and has a formula numbered n (`found-exactly` of the reader's promises).
 use mathlib.Core.Path.{_≡_, sym, ap, _∙_}
-use mathlib.Core.Bool.{Bool, true, false}
 use mathlib.Core.List.{List}
 use Prim.Native.Nat.{ℕ}
-use lib.Dec.{T}
 use lib.IntN.{ℤ}
 use lib.Ieee.{Float}
 use lib.Signed.{_≤ℤ_, _<ℤ_}
@@ -14,7 +12,6 @@ use Rattle.formula.proofs.StaysInRange.{formula-stays}
 use Rattle.word.specs.Words.{Word, NotZero}
 use Rattle.admission.specs.Lists.{All}
 use Rattle.door.specs.Taken.{takenOf}
-use Rattle.door.specs.declared.answer.Taken.{Taken}
 use Rattle.door.specs.declared.answer.Taken.the-variants.{Word as Took, NoWord, NotFinite}
 use Rattle.sheet.specs.Faults.{places}
 use Rattle.sheet.specs.Reader.{formulaRead, Answered}

@@ -14,7 +14,6 @@ use Rattle.sheet.specs.Faults.{places}
 use Rattle.sheet.specs.Reader.{Answered}
 use Rattle.sheet.proofs.FormulasGiven.{given-fits}
 use Rattle.board.specs.Board.{wordOf, evaluated}
-use Rattle.board.specs.declared.answers.Evaluation.{Evaluation}
 use Rattle.board.proofs.AnswersInside.{formulaOf, answers-inside}
 
 pub sheet-distance : (s : List ℕ) (k : ℕ) → Answered s k → (n q mode : ℕ) → formulaOf s k .shape ≡ polynomialShape n q mode → (x : ℤ) → formulaOf s k .lo ≤ℤ x → x ≤ℤ formulaOf s k .hi

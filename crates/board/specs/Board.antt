@@ -1,5 +1,5 @@
 -- Evaluation takes a whole sheet, a number and an argument: refusals 1 to 9, then 11, 13, 10.
-use mathlib.Core.Path.{_≡_, refl}
+use mathlib.Core.Path.{_≡_}
 use mathlib.Core.Bool.{cond}
 use mathlib.Core.List.{List}
 use Prim.Native.Nat.{ℕ}
@@ -15,13 +15,11 @@ use Rattle.door.specs.Exact.{Exactly}
 use Rattle.sheet.specs.Faults.{places}
 use Rattle.sheet.specs.Walking.{refusal}
 use Rattle.sheet.specs.Reader.{formulaRead}
-use Rattle.sheet.specs.declared.answers.Refusal.{Refusal}
 use Rattle.sheet.specs.declared.answers.Found.{Found}
 use Rattle.sheet.specs.declared.answers.Found.the-variants.{Given, Refused as Withheld}
 use Rattle.sheet.specs.declared.answers.Reading.{Reading}
 use Rattle.board.specs.declared.answers.Evaluation.{Evaluation}
 use Rattle.board.specs.declared.answers.Evaluation.the-variants.{Answered, Refused}
-use Rattle.board.specs.declared.answers.Worked.{Worked}
 use Rattle.board.specs.declared.answers.Shown.{Shown}
 use Rattle.board.specs.declared.answers.Shown.the-variants.{Value, Refused as NotShown}
 use Rattle.board.specs.declared.answers.Interval.{Interval}

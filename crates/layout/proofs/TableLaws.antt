@@ -1,24 +1,21 @@
 -- The search in the table, a row at a time; and what holds of every row holds of the row of any code.
-use mathlib.Core.Path.{_≡_, refl}
+use mathlib.Core.Path.{_≡_}
 use mathlib.Core.List.{List, [], _∷_}
 use mathlib.Core.Bool.{Bool, true, false, cond}
-use Prim.Native.Nat.{ℕ, suc, _+_, _<_}
-use native.Mathlib.Numerals.{add-one}
+use Prim.Native.Nat.{ℕ}
 use lib.Dec.{eqb}
-use lib.ListN.{length, getD, drop}
-use lib.Seq.{drop-cons}
 use borrow.Author.Tests.{eq-eqb, ne-eqb}
 use Rattle.layout.specs.Table.{rows, unknown, firstRow, rowOf}
 use Rattle.layout.specs.declared.table.Row.{Row}
 
-module _ (k : ℕ) (l : List Row) (i : ℕ) (d : Row) (h : i < length l) where
-  pub hit : getD l i d .code ≡ k → firstRow k (drop i l) ≡ getD l i d
+module _ (k : ℕ) (l : List Row) (r : Row) where
+  pub hit : r .code ≡ k → r ≡ firstRow k (r ∷ l)
   unfolding firstRow
-  hit e = rw (drop-cons l i d h) (simp (eq-eqb _ _ e))
+  hit e = simp (eq-eqb _ _ e)
 
-  pub miss : (getD l i d .code ≡ k → ⊥) → firstRow k (drop i l) ≡ firstRow k (drop (i + 1) l)
+  pub miss : {x : Row} → (r .code ≡ k → ⊥) → x ≡ firstRow k l → x ≡ firstRow k (r ∷ l)
   unfolding firstRow
-  miss e = rw (add-one i, drop-cons l i d h) (simp (ne-eqb _ _ e))
+  miss h e = simp (ne-eqb _ _ h) e
 
 abbrev pub Each : (Row → Type 0) → List Row → Type 0
 Each P [] = Unit

@@ -1,16 +1,18 @@
 -- What the bytes of one record say, by the row of its kind.
 use Prim.Native.Nat.{ℕ, zero, suc, _+_, _-_, _*_, _/_, _≤_}
-use mathlib.Core.Path.{_≡_}
+use mathlib.Core.Path.{_≡_, refl}
 use mathlib.Core.List.{List, [], _∷_, _++_}
 use mathlib.Core.Bool.{cond}
 use lib.Dec.{eqb}
 use lib.ListN.{length, replicate}
 use lib.IntN.{ℤ, pos}
 use Rattle.formula.specs.declared.Kind.{Kind}
+use Rattle.formula.specs.declared.Kind.the-variants.{Polynomial, Rational}
 use Rattle.formula.specs.declared.Shape.{Shape}
 use Rattle.formula.specs.declared.Formula.{Formula}
 use Rattle.layout.specs.declared.table.Field.{Field}
 use Rattle.layout.specs.declared.table.Row.{Row}
+use Rattle.layout.specs.Table.{rows, firstRow, rowOf}
 use Rattle.layout.specs.Numbers.{number2, word4}
 
 -- the kind's code, a start's or an end's count, and a formula's number, lo and hi
@@ -77,3 +79,17 @@ pub record Laid (r : Row) (b : List ℕ) : Type 0 where
   pub p : Within (r .p) (shapeOf r b .p)
   pub q : Within (r .q) (shapeOf r b .q)
   pub exact : lengthBy r (shapeOf r b .p) (shapeOf r b .q) ≡ length b
+
+-- ---- worked examples: a polynomial of 24 bytes has two coefficients; a rational's counts are stored
+by-length : shapeOf (rowOf 0x0010) (replicate 24 0) ≡ shape Polynomial 2 0 0
+unfolding rows firstRow rowOf number2 firstCount fieldOf shapeOf
+by-length = refl
+
+by-fields : shapeOf (rowOf 0x0011) (replicate 16 0 ++ (3 ∷ 0 ∷ 2 ∷ 0 ∷ [])) ≡ shape Rational 3 2 0
+unfolding rows firstRow rowOf number2 firstCount fieldOf shapeOf
+by-fields = refl
+
+-- a fraction of depth 2 has b0, a1, b1, a2, b2
+depth-two : lengthBy (rowOf 0x0012) 2 0 ≡ 40
+unfolding rows firstRow rowOf wordsBy
+depth-two = refl

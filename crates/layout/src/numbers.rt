@@ -1,10 +1,10 @@
 // Little-endian numbers in a slice of bytes: read at a position, and stored at one.
 ghost use mathlib.Core.Path.{_≡_};
-ghost use Prim.Native.Nat.{ℕ, _+_, _*_, _<_, _≤_};
-ghost use lib.ListN.{length, getD};
+ghost use Prim.Native.Nat.{_+_, _*_, _<_, _≤_};
+ghost use lib.ListN.{length};
 ghost use lib.Seq.{sets};
 ghost use mir.Syntax.{w32};
-ghost use mir.Val.{toZ, ofZ};
+ghost use mir.Val.{toZ};
 ghost use Rattle.layout.specs.Numbers.{number2, number4, word4, bytes2, bytes4, pattern};
 
 // A byte as a wider number.

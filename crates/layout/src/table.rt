@@ -140,16 +140,28 @@ const UNKNOWN: Row = Row {
     mode: NONE,
 };
 
+// Row by row at known places: a search by a running place would copy the whole table for each record.
 pub fn row_of(code: u16) -> Row
     ensures { λ r. ⌜ r ≡ rowOf code ⌝ }
 {
-    let mut i: usize = 0;
-    while i < 6 {
-        let row = ROWS[i];
-        if row.code == code {
-            return row;
-        }
-        i += 1;
+    let rows = ROWS;
+    if rows[0].code == code {
+        return rows[0];
+    }
+    if rows[1].code == code {
+        return rows[1];
+    }
+    if rows[2].code == code {
+        return rows[2];
+    }
+    if rows[3].code == code {
+        return rows[3];
+    }
+    if rows[4].code == code {
+        return rows[4];
+    }
+    if rows[5].code == code {
+        return rows[5];
     }
     UNKNOWN
 }

@@ -6,6 +6,11 @@ ghost use Rattle.polynomial.specs.Polynomial.{horner, PolynomialReady};
 ghost use Rattle.rational.specs.Rational.{rationalOf, RationalReady};
 ghost use Rattle.fraction.specs.Fraction.{fractionOf};
 ghost use Rattle.fraction.specs.Ready.{FractionReady};
+ghost use Rattle.sheet.specs.Reader.{formulaCount, countValue};
+ghost use Rattle.board.specs.Board.{evaluated, wordOf};
+use board::answers::Evaluation;
+use sheet::answers::FormulaCount;
+use sheet::reader;
 
 #[no_mangle]
 pub extern "C" fn measured_product(a: i32, b: i32, s: u32) -> i64
@@ -53,4 +58,24 @@ pub extern "C" fn measured_root(x: i32, s: u32) -> i32
     ensures { λ r. ⌜ r ≡ rootWord s x ⌝ }
 {
     word::root(x, s)
+}
+
+#[no_mangle]
+pub extern "C" fn measured_count(sheet: &[u8]) -> u16
+    ensures { λ r. ⌜ r ≡ countValue (formulaCount (now (sheet .entry))) ⌝ }
+{
+    match reader::formula_count(sheet) {
+        FormulaCount::Count(count) => count,
+        FormulaCount::Refused(_) => 0,
+    }
+}
+
+#[no_mangle]
+pub extern "C" fn measured_evaluate(sheet: &[u8], number: u16, x: i32) -> i32
+    ensures { λ r. ⌜ r ≡ wordOf (evaluated (now (sheet .entry)) number x) ⌝ }
+{
+    match board::evaluate(sheet, number, x) {
+        Evaluation::Answered(worked) => worked.word,
+        Evaluation::Refused(_) => 0,
+    }
 }

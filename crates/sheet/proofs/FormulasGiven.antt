@@ -1,9 +1,9 @@
 -- Promise: each formula that the reader gives is sound and admitted and has the number asked for; a number is found exactly
 -- when a record of the sheet has it, and the formula is then that record's.
-use mathlib.Core.Path.{_≡_, _∙_, refl, sym, ap, subst}
+use mathlib.Core.Path.{_≡_, _∙_, refl, ap, subst}
 use mathlib.Core.List.{List}
 use mathlib.Core.Logic.{_⊎_, inl, inr}
-use Prim.Native.Nat.{ℕ, zero, suc, _+_, _≤_}
+use Prim.Native.Nat.{ℕ}
 use native.Mathlib.Omega.{arith}
 use lib.ListN.{length}
 use Rattle.admission.specs.declared.Admission.{Admission}
@@ -13,10 +13,10 @@ use Rattle.admission.specs.Admission.{numberOf}
 use Rattle.formula.specs.Formula.{Sound, admissionOf}
 use Rattle.layout.specs.Fields.{codeOf, formulaNumber, shapeOf, loOf, hiOf, wordsOf, padded, formulaOf}
 use Rattle.layout.proofs.Rule.{ruled}
-use Rattle.sheet.specs.Faults.{bytesAt, rowFor, valueFault, places, innerFault}
-use Rattle.sheet.specs.Walking.{refusal, walkOf}
+use Rattle.sheet.specs.Faults.{rowFor, valueFault, places, innerFault}
+use Rattle.sheet.specs.Walking.{refusal}
 use Rattle.sheet.specs.Sheets.{FormulaBytes, Has, SheetOf}
-use Rattle.sheet.specs.Reader.{countNumber, formulaCount, foundNumber, reading, withheld, foundAnswer, readAnswer, formulaRead, Accepted, Answered}
+use Rattle.sheet.specs.Reader.{countNumber, formulaCount, foundNumber, foundPlace, reading, withheld, foundAnswer, readAnswer, formulaRead, Accepted, Answered}
 use Rattle.sheet.specs.declared.answers.FormulaCount.{FormulaCount}
 use Rattle.sheet.specs.declared.answers.FormulaCount.the-variants.{Count, Refused}
 use Rattle.sheet.specs.declared.answers.Found.the-variants.{Given}
@@ -101,6 +101,14 @@ found-exactly c s h n = at (found-or-not c s h n)
     at (inl g) = ((λ x. ap (λ (r : Reading). foundNumber (r .found)) (g .answer)), λ x. g .there)
     at (inr l) = ((λ x. absurd (l .0 x)), λ x. absurd (let z : _≡_ {A = ℕ} 11 0 = rw (l .1) at x in omega arith))
 
+-- else it is refused by 11, at place 0
+pub not-found : (c : ℕ) (s : List ℕ) (h : SheetOf c s) (n : ℕ) → (Has n (h .formulas) → ⊥) → (foundNumber (formulaRead s n .found) ≡ 11) × (foundPlace (formulaRead s n .found) ≡ 0)
+not-found c s h n z = at (found-or-not c s h n)
+  where
+    at : Gives s n (h .formulas) ⊎ ((Has n (h .formulas) → ⊥) × (formulaRead s n ≡ withheld (refusal 0 11))) → (foundNumber (formulaRead s n .found) ≡ 11) × (foundPlace (formulaRead s n .found) ≡ 0)
+    at (inl g) = absurd (z (g .there))
+    at (inr l) = (ap (λ (r : Reading). foundNumber (r .found)) (l .1), ap (λ (r : Reading). foundPlace (r .found)) (l .1))
+
 -- a number is found in an accepted sheet only
 answered-accepted : (s : List ℕ) (n : ℕ) → Answered s n → Accepted s
 answered-accepted s n e = at (formulaCount s) refl
@@ -113,8 +121,8 @@ answered-accepted s n e = at (formulaCount s) refl
 pub given-fits : (s : List ℕ) (n : ℕ) → Answered s n → Fit (formulaRead s n .formula) × (formulaRead s n .formula .number ≡ n)
 unfolding formulaOf
 given-fits s n e =
-    let p = accepted-shape s (answered-accepted s n e) in
-    at (p .2 .formulas) (found-or-not (p .0) s (p .2) n)
+    let h = accepted-shape s (answered-accepted s n e) in
+    at (h .formulas) (found-or-not _ s h n)
   where
     at : (fs : List (List ℕ)) → Gives s n fs ⊎ ((Has n fs → ⊥) × (formulaRead s n ≡ withheld (refusal 0 11))) → Fit (formulaRead s n .formula) × (formulaRead s n .formula .number ≡ n)
     at fs (inl g) = rw (g .answer) (g .fits, g .number)
@@ -123,8 +131,8 @@ given-fits s n e =
 -- no refusal has the number 0: where there is none, the formula is given
 pub given-found : (s : List ℕ) (n : ℕ) → Answered s n → formulaRead s n .found ≡ Given
 given-found s n e =
-    let p = accepted-shape s (answered-accepted s n e) in
-    at (p .2 .formulas) (found-or-not (p .0) s (p .2) n)
+    let h = accepted-shape s (answered-accepted s n e) in
+    at (h .formulas) (found-or-not _ s h n)
   where
     at : (fs : List (List ℕ)) → Gives s n fs ⊎ ((Has n fs → ⊥) × (formulaRead s n ≡ withheld (refusal 0 11))) → formulaRead s n .found ≡ Given
     at fs (inl g) = ap (λ (r : Reading). r .found) (g .answer)

@@ -9,7 +9,7 @@ use borrow.Author.Tests.{ltb-false, eqb-true}
 use Rattle.layout.specs.declared.table.Field.{Field}
 use Rattle.layout.specs.declared.table.Row.{Row}
 use Rattle.layout.specs.Fields.{shapeOf, lengthBy, Within, Laid}
-use Rattle.sheet.specs.Faults.{outside, countFault, lengthFault}
+use Rattle.sheet.specs.Faults.{outside, countFault, sizeFault, lengthFault}
 use Rattle.sheet.proofs.Chain.{passed, met, neither}
 
 pub inside : (f : Field) (n k : ℕ) → (k ≡ 0 → ⊥) → outside f n k ≡ 0 → Within f n
@@ -26,7 +26,7 @@ counted r p q e =
     (inside (r .p) p 2 (λ z. omega arith) (f .0), inside (r .q) q 2 (λ z. omega arith) (f .1))
 
 pub laid : (r : Row) (b : List ℕ) → lengthFault r b ≡ 0 → Laid r b
-unfolding lengthFault
+unfolding lengthFault sizeFault
 laid r b e =
     let h = shapeOf r b in
     let f = passed (ltb (length b) (r .head)) 2 _ (λ z. omega arith) e in

@@ -15,3 +15,4 @@ pub mod AcceptedShape
 pub mod CutShort
 pub mod ZeroTail
 pub mod FormulasGiven
+pub mod Settled

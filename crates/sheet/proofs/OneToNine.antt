@@ -24,7 +24,7 @@ use Rattle.layout.specs.declared.table.Row.{Row}
 use Rattle.layout.specs.Fields.{countOf, formulaNumber, shapeOf, lengthBy, formulaOf}
 use Rattle.layout.specs.Numbers.{number4}
 use Rattle.sheet.specs.Guard.{guard, orElse}
-use Rattle.sheet.specs.Faults.{frameFault, bytesAt, rowFor, placeFault, outside, countFault, lengthFault, startFault, orderFault, endFault, wordFault, wordsFault, intervalFault, kindFault, valueFault, places, innerFault, classFault, recordFault}
+use Rattle.sheet.specs.Faults.{frameFault, bytesAt, rowFor, placeFault, outside, countFault, sizeFault, lengthFault, startFault, orderFault, endFault, wordFault, wordsFault, intervalFault, kindFault, valueFault, places, innerFault, classFault, recordFault}
 use Rattle.sheet.specs.Walking.{refusal, refused, ending, classStep, recordStep, begin, onStep, stepOf, walkFrom, walkOf}
 use Rattle.sheet.specs.Reader.{countNumber, formulaCount, noNumber, countAnswer, foundNumber, withheld, readAnswer, formulaRead, Accepted, NotAccepted}
 use Rattle.sheet.specs.declared.walking.Walk.{Walk}
@@ -75,7 +75,7 @@ unfolding outside
 out f n k h = small (ltb n (f .least)) k h (small (ltb (f .most) n) k h none)
 
 size : (r : Row) (b : List ℕ) → lengthFault r b ≤ 8
-unfolding lengthFault countFault
+unfolding lengthFault sizeFault countFault
 size r b =
     let p = shapeOf r b .p in
     let q = shapeOf r b .q in

@@ -3,7 +3,7 @@ use mathlib.Core.Path.{_≡_, _∙_, refl, sym, ap, subst}
 use mathlib.Core.List.{List, [], _∷_, _++_, append-nil, append-assoc}
 use mathlib.Core.Logic.{_⊎_, inl, inr}
 use mathlib.Core.Bool.{Bool, true, false, cond}
-use Prim.Native.Nat.{ℕ, zero, suc, _+_, _≤_}
+use Prim.Native.Nat.{ℕ, zero, suc, _+_}
 use native.Mathlib.Nat.{add-zero}
 use native.Mathlib.Omega.{arith}
 use lib.Dec.{eqb}
@@ -11,12 +11,12 @@ use lib.ListN.{length, length-append}
 use borrow.Author.Tests.{eqb-true, eqb-false, le-ltb}
 use Rattle.layout.specs.declared.table.Class.the-variants.{FormulaRecord}
 use Rattle.layout.specs.Fields.{formulaNumber}
-use Rattle.sheet.specs.Faults.{frameFault, bytesAt}
+use Rattle.sheet.specs.Faults.{bytesAt}
 use Rattle.sheet.specs.Walking.{walkOf}
 use Rattle.sheet.specs.Sheets.{FormulaBytes, EachFormula, joined, Has, SheetOf}
 use Rattle.sheet.specs.Reader.{formulaAt, reading, foundAnswer, Standing}
 use Rattle.sheet.specs.declared.answers.Found.the-variants.{Given}
-use Rattle.sheet.specs.declared.walking.Walked.the-variants.{Whole, Broken}
+use Rattle.sheet.specs.declared.walking.Walked.the-variants.{Whole}
 use Rattle.sheet.proofs.Records.{frame-there, bytes-there}
 use Rattle.sheet.proofs.WalkToShape.{shape}
 use Rattle.sheet.proofs.ShapeToWalk.{placeIn, walked}

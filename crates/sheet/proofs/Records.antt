@@ -1,22 +1,20 @@
 -- A record in the middle of other bytes: read there, and put there.
-use mathlib.Core.Path.{_≡_, _∙_, refl, sym, ap, subst}
-use mathlib.Core.List.{List, [], _∷_, _++_}
-use Prim.Native.Nat.{ℕ, _+_, _-_, _≤_}
+use mathlib.Core.Path.{_≡_, _∙_, sym, ap, subst}
+use mathlib.Core.List.{List, _++_}
+use Prim.Native.Nat.{ℕ, _+_, _-_}
 use native.Mathlib.Nat.{add-zero}
 use native.Mathlib.Omega.{arith}
-use lib.Dec.{ltb}
-use lib.ListN.{length, getD, take, drop, length-append, take-append-drop}
-use lib.Seq.{getD-drop, drop-drop, drop-append-seam, take-append-seam}
+use lib.ListN.{length, take, drop, length-append, take-append-drop}
+use lib.Seq.{drop-drop, drop-append-seam, take-append-seam}
 use borrow.Author.Tests.{le-ltb, eq-eqb}
 use Rattle.layout.specs.Numbers.{number4}
 use Rattle.layout.specs.declared.table.Class.{Class}
 use Rattle.layout.proofs.NumberLaws.{number4-in, number4-drop, number4-more}
-use Rattle.sheet.specs.Guard.{orElse}
 use Rattle.sheet.specs.Faults.{frameFault, bytesAt, rowFor, placeFault, lengthFault, classFault, recordFault}
 use Rattle.sheet.specs.Walking.{classStep, recordStep, stepOf}
 use Rattle.sheet.specs.Sheets.{RecordOf}
 use Rattle.sheet.specs.declared.walking.Walk.{Walk}
-use Rattle.sheet.proofs.Steps.{Framed, framed, length-bytesAt}
+use Rattle.sheet.proofs.Steps.{framed, length-bytesAt}
 
 -- ---- read there
 

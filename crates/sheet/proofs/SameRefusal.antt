@@ -9,14 +9,12 @@ use lib.ListN.{length}
 use Rattle.layout.specs.declared.table.Class.{Class}
 use Rattle.layout.specs.declared.table.Class.the-variants.{StartRecord, FormulaRecord, EndRecord, Unknown}
 use Rattle.layout.specs.declared.table.Row.{Row}
-use Rattle.layout.specs.Fields.{formulaNumber}
 use Rattle.sheet.specs.Guard.{guard}
 use Rattle.sheet.specs.Faults.{frameFault, bytesAt, rowFor, orderFault, endFault, classFault, recordFault}
-use Rattle.sheet.specs.Walking.{walk, refusal, refused, foundBy, ending, classStep, recordStep, begin, onStep, stepOf, walkFrom, walkOf}
+use Rattle.sheet.specs.Walking.{walk, refusal, refused, ending, classStep, recordStep, begin, onStep, stepOf, walkFrom, walkOf}
 use Rattle.sheet.specs.Reader.{countAnswer, noNumber, formulaCount, withheld, readAnswer, formulaRead}
 use Rattle.sheet.specs.declared.answers.Refusal.{Refusal}
-use Rattle.sheet.specs.declared.answers.FormulaCount.{FormulaCount}
-use Rattle.sheet.specs.declared.answers.FormulaCount.the-variants.{Count, Refused}
+use Rattle.sheet.specs.declared.answers.FormulaCount.the-variants.{Refused}
 use Rattle.sheet.specs.declared.walking.Walk.{Walk}
 use Rattle.sheet.specs.declared.walking.Walked.{Walked}
 use Rattle.sheet.specs.declared.walking.Walked.the-variants.{Whole, Broken}

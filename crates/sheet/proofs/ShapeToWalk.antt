@@ -1,16 +1,16 @@
 -- The other way round: what the walk makes of the bytes of a sheet, with anything behind them.
-use mathlib.Core.Path.{_≡_, _∙_, refl, sym, ap, subst}
-use mathlib.Core.List.{List, [], _∷_, _++_, append-nil, append-assoc}
+use mathlib.Core.Path.{_≡_, _∙_, refl, sym, ap}
+use mathlib.Core.List.{List, [], _∷_, _++_, append-assoc}
 use mathlib.Core.Bool.{cond}
 use Prim.Native.Nat.{ℕ, zero, suc, _+_, _≤_, _<_}
 use native.Mathlib.Omega.{arith}
 use lib.Dec.{eqb, ltb}
 use lib.ListN.{length, length-append}
-use borrow.Author.Tests.{eq-eqb, ne-eqb, le-ltb, lt-ltb}
+use borrow.Author.Tests.{eq-eqb, ne-eqb, le-ltb}
 use Rattle.layout.specs.declared.table.Class.the-variants.{StartRecord, FormulaRecord, EndRecord}
 use Rattle.layout.specs.Fields.{countOf, formulaNumber}
 use Rattle.sheet.specs.Faults.{placeFault, startFault, orderFault, endFault}
-use Rattle.sheet.specs.Walking.{refusal, foundBy, afterStart, afterFormula, ending, begin, onStep, stepOf, walkFrom, walkOf}
+use Rattle.sheet.specs.Walking.{refusal, foundBy, afterStart, afterFormula, ending, begin, stepOf, walkFrom, walkOf}
 use Rattle.sheet.specs.Sheets.{RecordOf, FormulaBytes, EachFormula, Rising, joined, SheetOf}
 use Rattle.sheet.specs.declared.walking.Walk.{Walk}
 use Rattle.sheet.specs.declared.walking.Walked.{Walked}

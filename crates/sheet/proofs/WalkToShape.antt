@@ -12,9 +12,9 @@ use Rattle.layout.specs.declared.table.Class.the-variants.{StartRecord, Formula
 use Rattle.layout.specs.Fields.{countOf, formulaNumber}
 use Rattle.sheet.specs.Faults.{bytesAt, endFault}
 use Rattle.sheet.specs.Walking.{begin, afterStart, afterFormula, onStep, stepOf, walkFrom, walkOf}
-use Rattle.sheet.specs.Sheets.{RecordOf, FormulaBytes, EachFormula, Rising, joined, SheetOf}
+use Rattle.sheet.specs.Sheets.{RecordOf, EachFormula, Rising, joined, SheetOf}
 use Rattle.sheet.specs.declared.walking.Walk.{Walk}
-use Rattle.sheet.specs.declared.walking.Walked.the-variants.{Whole, Broken}
+use Rattle.sheet.specs.declared.walking.Walked.the-variants.{Whole}
 use Rattle.sheet.specs.declared.walking.Step.{Step}
 use Rattle.sheet.specs.declared.walking.Step.the-variants.{More, Done}
 use Rattle.sheet.proofs.Chain.{met}

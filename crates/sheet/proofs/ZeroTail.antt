@@ -14,7 +14,7 @@ use Rattle.layout.specs.Numbers.{number2}
 use Rattle.layout.specs.Fields.{codeOf, shapeOf}
 use Rattle.layout.proofs.Rule.{end-length}
 use Rattle.sheet.specs.Faults.{rowFor}
-use Rattle.sheet.specs.Sheets.{RecordOf, joined, SheetOf}
+use Rattle.sheet.specs.Sheets.{RecordOf, joined}
 use Rattle.sheet.specs.Reader.{Accepted, NotAccepted}
 use Rattle.sheet.proofs.Lengths.{laid}
 use Rattle.sheet.proofs.OneToNine.{one-to-nine}
@@ -37,8 +37,7 @@ record LastBytes (s : List ℕ) : Type 0 where
 last-bytes : (s : List ℕ) → Accepted s → LastBytes s
 unfolding number2
 last-bytes s a =
-    let p = accepted-shape s a in
-    let h = p .2 in
+    let h = accepted-shape s a in
     let pre = h .start ++ joined (h .formulas) in
     let b = h .finish in
     let e : s ≡ pre ++ b = h .whole ∙ sym (append-assoc (h .start) (joined (h .formulas)) b) in

@@ -1,10 +1,11 @@
 -- Refusals 1 to 8 of one record, as the paper's numbers; 0 where there is none.
 use Prim.Native.Nat.{ℕ, _-_}
+use mathlib.Core.Path.{_≡_, refl}
 use mathlib.Core.List.{List, [], _∷_}
 use mathlib.Core.Bool.{cond}
 use lib.Dec.{ltb, eqb}
-use lib.ListN.{length, take, drop}
-use lib.IntN.{ℤ, pos, natAbs}
+use lib.ListN.{length, take, drop, replicate}
+use lib.IntN.{ℤ, pos, negsuc, natAbs}
 use lib.Signed.{ltZ}
 use Rattle.word.specs.Words.{largest}
 use Rattle.formula.specs.declared.Kind.{Kind}
@@ -17,9 +18,9 @@ use Rattle.layout.specs.declared.table.Class.{Class}
 use Rattle.layout.specs.declared.table.Class.the-variants.{StartRecord, FormulaRecord, EndRecord, Unknown}
 use Rattle.layout.specs.declared.table.Field.{Field}
 use Rattle.layout.specs.declared.table.Row.{Row}
-use Rattle.layout.specs.Numbers.{number4}
-use Rattle.layout.specs.Table.{rowOf}
-use Rattle.layout.specs.Fields.{codeOf, countOf, formulaNumber, shapeOf, lengthBy, formulaOf}
+use Rattle.layout.specs.Numbers.{number2, number4}
+use Rattle.layout.specs.Table.{rows, firstRow, rowOf}
+use Rattle.layout.specs.Fields.{codeOf, countOf, formulaNumber, firstCount, fieldOf, shapeOf, wordsBy, lengthBy, formulaOf}
 use Rattle.sheet.specs.Guard.{orElse}
 use Rattle.sheet.specs.declared.walking.Walk.{Walk}
 
@@ -54,12 +55,13 @@ outside f n k = cond (ltb n (f .least)) k (cond (ltb (f .most) n) k 0)
 unfoldable pub countFault : Row → ℕ → ℕ → ℕ
 countFault r p q = orElse (outside (r .p) p 2) (outside (r .q) q 2)
 
--- exact length (2): too short for its fields, counts outside their ranges, or not the length of its kind and counts
+-- not the length of its kind and counts (2)
+unfoldable pub sizeFault : Row → Shape → ℕ → ℕ
+sizeFault r h n = orElse (countFault r (h .p) (h .q)) (cond (eqb (lengthBy r (h .p) (h .q)) n) 0 2)
+
+-- exact length (2): too short for its fields, or one of these
 unfoldable pub lengthFault : Row → List ℕ → ℕ
-lengthFault r b =
-    cond (ltb (length b) (r .head)) 2
-    (orElse (countFault r (shapeOf r b .p) (shapeOf r b .q))
-    (cond (eqb (lengthBy r (shapeOf r b .p) (shapeOf r b .q)) (length b)) 0 2))
+lengthFault r b = cond (ltb (length b) (r .head)) 2 (sizeFault r (shapeOf r b) (length b))
 
 -- start count not 1 to 64 (4)
 unfoldable pub startFault : ℕ → ℕ
@@ -132,3 +134,23 @@ recordFault r b w =
     orElse (placeFault (r .class) (w .at))
     (orElse (lengthFault r b)
     (classFault (r .class) r b w))
+
+-- ---- worked examples: a root of 16 bytes and of 20; counts of a start; the one pattern that is no word; lo above hi
+root-length : lengthFault (rowOf 0x0013) (replicate 16 0) ≡ 0
+unfolding rows firstRow rowOf number2 firstCount fieldOf shapeOf wordsBy outside countFault sizeFault lengthFault
+root-length = refl
+
+root-too-long : lengthFault (rowOf 0x0013) (replicate 20 0) ≡ 2
+unfolding rows firstRow rowOf number2 firstCount fieldOf shapeOf wordsBy outside countFault sizeFault lengthFault
+root-too-long = refl
+
+none-or-too-many : (startFault 0 ≡ 4) × (startFault 64 ≡ 0) × (startFault 65 ≡ 4)
+unfolding startFault
+none-or-too-many = (refl, refl, refl)
+
+no-word : (wordFault (negsuc 2147483647) ≡ 6) × (wordFault (negsuc 2147483646) ≡ 0)
+no-word = (refl, refl)
+
+lo-above-hi : (intervalFault (pos 1) (pos 0) ≡ 6) × (intervalFault (pos 1) (pos 1) ≡ 0)
+unfolding intervalFault
+lo-above-hi = (refl, refl)

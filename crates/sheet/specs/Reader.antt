@@ -1,14 +1,16 @@
 -- What the reader answers: the formula count of a sheet, and the formula of a number.
 use Prim.Native.Nat.{ℕ, zero, suc, _≤_}
-use mathlib.Core.Path.{_≡_}
-use mathlib.Core.List.{List, []}
-use lib.ListN.{length}
+use mathlib.Core.Path.{_≡_, refl}
+use mathlib.Core.List.{List, [], _∷_}
+use lib.ListN.{length, replicate}
 use lib.IntN.{pos}
 use Rattle.formula.specs.declared.Kind.the-variants.{NoFormula}
 use Rattle.formula.specs.declared.Formula.{Formula}
-use Rattle.layout.specs.Fields.{shape, padded, formula, formulaOf}
-use Rattle.sheet.specs.Faults.{frameFault, bytesAt, rowFor}
-use Rattle.sheet.specs.Walking.{refusal, walkOf}
+use Rattle.layout.specs.Numbers.{number2, number4}
+use Rattle.layout.specs.Table.{rows, firstRow, rowOf}
+use Rattle.layout.specs.Fields.{firstCount, fieldOf, shape, shapeOf, wordsBy, padded, formula, formulaOf}
+use Rattle.sheet.specs.Faults.{frameFault, bytesAt, rowFor, outside, countFault, sizeFault, lengthFault, startFault, recordFault}
+use Rattle.sheet.specs.Walking.{refusal, recordStep, stepOf, walkFrom, walkOf}
 use Rattle.sheet.specs.Sheets.{FormulaBytes}
 use Rattle.sheet.specs.declared.answers.Refusal.{Refusal}
 use Rattle.sheet.specs.declared.answers.FormulaCount.{FormulaCount}
@@ -91,3 +93,14 @@ pub record Standing (s : List ℕ) (place : ℕ) : Type 0 where
   pub within : place ≤ length s
   pub frame : frameFault s place ≡ 0
   pub bytes : FormulaBytes (bytesAt s place)
+
+-- ---- worked examples: empty input; eight zeros; a start alone, the bytes stopping after it; an end first
+abbrev startOnly : List ℕ
+startOnly = 8 ∷ 0 ∷ 0 ∷ 0 ∷ 1 ∷ 0 ∷ 1 ∷ 0 ∷ []
+
+abbrev endOnly : List ℕ
+endOnly = 8 ∷ 0 ∷ 0 ∷ 0 ∷ 255 ∷ 255 ∷ 1 ∷ 0 ∷ []
+
+refusals : (formulaCount [] ≡ Refused (refusal 0 1)) × (formulaCount (replicate 8 0) ≡ Refused (refusal 0 2)) × (formulaCount startOnly ≡ Refused (refusal 8 1)) × (formulaCount endOnly ≡ Refused (refusal 0 3))
+unfolding formulaCount walkOf walkFrom stepOf recordStep frameFault bytesAt recordFault lengthFault sizeFault countFault outside startFault number2 number4 rows firstRow rowOf firstCount fieldOf shapeOf wordsBy
+refusals = (refl, refl, refl, refl)

@@ -4,8 +4,8 @@ ghost use Prim.Native.Nat.{_+_, _<_, _≤_};
 ghost use lib.ListN.{length};
 ghost use Rattle.formula.specs.Formula.{Sound};
 ghost use Rattle.layout.specs.Rule.{Ruled, Held};
-ghost use Rattle.layout.specs.Fields.{formulaOf, Laid};
-ghost use Rattle.sheet.specs.Faults.{frameFault, placeFault, outside, countFault, lengthFault, startFault, orderFault, endFault, wordFault, wordsFault, intervalFault, kindFault, valueFault, admissionFault, innerFault, formulaFault, classFault, recordFault};
+ghost use Rattle.layout.specs.Fields.{shapeOf, formulaOf, Laid};
+ghost use Rattle.sheet.specs.Faults.{frameFault, placeFault, outside, countFault, sizeFault, startFault, orderFault, endFault, wordFault, wordsFault, intervalFault, kindFault, valueFault, admissionFault, innerFault, formulaFault, classFault, recordFault};
 use crate::walking::Walk;
 use admission::Admission;
 use formula::Kind;
@@ -90,19 +90,15 @@ pub fn count_fault(row: Row, p: u16, q: u16) -> u8
     outside(second, q, 2)
 }
 
-fn length_fault(b: &[u8], row: Row) -> u8
-    requires { ⌜ Ruled row × (length (now b) ≤ 120) ⌝ }
-    ensures { λ r. ⌜ r ≡ lengthFault row (now (b .entry)) ⌝ }
+fn size_fault(row: Row, shape: Shape, n: usize) -> u8
+    requires { ⌜ Ruled row ⌝ }
+    ensures { λ r. ⌜ r ≡ sizeFault row shape n ⌝ }
 {
-    if b.len() < row.head {
-        return 2;
-    }
-    let shape = fields::shape_of(b, row);
     let f = count_fault(row, shape.p, shape.q);
     if f != 0 {
         return f;
     }
-    if row.head + 4 * fields::words_by(row, shape.p, shape.q) != b.len() {
+    if row.head + 4 * fields::words_by(row, shape.p, shape.q) != n {
         return 2;
     }
     0
@@ -234,11 +230,10 @@ fn admission_fault(shape: Shape, lo: i32, hi: i32, words: &[i32]) -> u8
 }
 
 // The words are read once, into an array that the two checks are lent.
-fn inner_fault(b: &[u8], row: Row) -> u8
-    requires { ⌜ Held row (now b) ⌝ }
+fn inner_fault(b: &[u8], row: Row, shape: Shape) -> u8
+    requires { ⌜ Held row (now b) × (shape ≡ shapeOf row (now b)) ⌝ }
     ensures { λ r. ⌜ r ≡ innerFault row (formulaOf row (now (b .entry))) ⌝ }
 {
-    let shape = fields::shape_of(b, row);
     let lo = numbers::get_word(b, 8);
     let hi = numbers::get_word(b, 12);
     let m = fields::words_by(row, shape.p, shape.q);
@@ -251,30 +246,31 @@ fn inner_fault(b: &[u8], row: Row) -> u8
     admission_fault(shape, lo, hi, &words)
 }
 
-fn formula_fault(b: &[u8], row: Row, w: Walk) -> u8
-    requires { ⌜ Held row (now b) ⌝ }
+fn formula_fault(b: &[u8], row: Row, shape: Shape, w: Walk) -> u8
+    requires { ⌜ Held row (now b) × (shape ≡ shapeOf row (now b)) ⌝ }
     ensures { λ r. ⌜ r ≡ formulaFault row (now (b .entry)) w ⌝ }
 {
     let f = order_fault(w, numbers::get2(b, 6));
     if f != 0 {
         return f;
     }
-    inner_fault(b, row)
+    inner_fault(b, row, shape)
 }
 
-fn class_fault(b: &[u8], row: Row, w: Walk) -> u8
-    requires { ⌜ Ruled row × (8 ≤ length (now b)) × (length (now b) ≤ 120) × Laid row (now b) ⌝ }
+fn class_fault(b: &[u8], row: Row, shape: Shape, w: Walk) -> u8
+    requires { ⌜ Ruled row × (8 ≤ length (now b)) × (length (now b) ≤ 120) × Laid row (now b) × (shape ≡ shapeOf row (now b)) ⌝ }
     ensures { λ r. ⌜ r ≡ classFault (row .class) row (now (b .entry)) w ⌝ }
 {
     let class = row.class;
     match class {
         Class::StartRecord => start_fault(numbers::get2(b, 6)),
-        Class::FormulaRecord => formula_fault(b, row, w),
+        Class::FormulaRecord => formula_fault(b, row, shape, w),
         Class::EndRecord => end_fault(w, numbers::get2(b, 6)),
         Class::Unknown => 0,
     }
 }
 
+// The counts are read once, for the length and for the formula.
 pub fn record_fault(b: &[u8], row: Row, w: Walk) -> u8
     requires { ⌜ Ruled row × (8 ≤ length (now b)) × (length (now b) ≤ 120) ⌝ }
     ensures { λ r. ⌜ r ≡ recordFault row (now (b .entry)) w ⌝ }
@@ -284,9 +280,13 @@ pub fn record_fault(b: &[u8], row: Row, w: Walk) -> u8
     if f != 0 {
         return f;
     }
-    let g = length_fault(b, row);
+    if b.len() < row.head {
+        return 2;
+    }
+    let shape = fields::shape_of(b, row);
+    let g = size_fault(row, shape, b.len());
     if g != 0 {
         return g;
     }
-    class_fault(b, row, w)
+    class_fault(b, row, shape, w)
 }

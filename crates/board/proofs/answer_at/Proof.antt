@@ -1,6 +1,6 @@
 -- `board::answer_at` meets its contract.
 use borrow.Author.Needs.{needs}
-use mathlib.Core.Path.{_≡_, sym, ap, _∙_, subst}
+use mathlib.Core.Path.{sym, ap, _∙_, subst}
 use native.Mathlib.Omega.{arith}
 use lib.Signed.{_≤ℤ_}
 use mir.Syntax.{w32}

@@ -1,7 +1,6 @@
 -- `board::evaluate` meets its contract.
 use borrow.Author.Needs.{needs}
-use mathlib.Core.Path.{_≡_, ap, _∙_}
-use lib.IntN.{ℤ}
+use mathlib.Core.Path.{ap, _∙_}
 use Rattle.whole.proofs.Held.{held, arg}
 use Rattle.formula.specs.declared.Formula.{Formula}
 use Rattle.board.specs.Board.{answerAt}

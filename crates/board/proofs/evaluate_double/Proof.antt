@@ -1,6 +1,6 @@
 -- `board::evaluate_double` meets its contract.
 use borrow.Author.Needs.{needs}
-use mathlib.Core.Path.{_≡_, refl, _∙_, subst}
+use mathlib.Core.Path.{refl, _∙_, subst}
 use Rattle.formula.specs.declared.Formula.{Formula}
 use Rattle.board.specs.Board.{takenAt, ShownAs}
 use Rattle.board.specs.declared.answers.Evaluation.{Evaluation}

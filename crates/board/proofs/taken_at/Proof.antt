@@ -1,10 +1,9 @@
 -- `board::taken_at` meets its contract.
 use borrow.Author.Needs.{needs}
-use mathlib.Core.Path.{_≡_, sym, ap, _∙_}
+use mathlib.Core.Path.{sym, ap, _∙_}
 use mir.Syntax.{w32}
 use mir.Val.{SFits}
 use Rattle.whole.proofs.Held.{held, arg}
-use Rattle.door.specs.declared.answer.Taken.{Taken}
 use Rattle.board.specs.Board.{answerAt, takenBy}
 use Rattle.board.proofs.taken_at.Statement.{statement}
 use Rattle.board.proofs.taken_at.Tie as tie

@@ -1,6 +1,6 @@
 -- `measured::measured_fraction` meets its contract: that of the function that it calls.
 use borrow.Author.Needs.{needs}
-use mathlib.Core.Path.{_≡_, ap, _∙_}
+use mathlib.Core.Path.{ap, _∙_}
 use mir.Syntax.{w32}
 use Rattle.whole.proofs.Held.{held, arg, given}
 use Rattle.fraction.specs.Fraction.{fractionOf}

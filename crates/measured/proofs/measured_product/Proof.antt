@@ -1,6 +1,6 @@
 -- `measured::measured_product` meets its contract: that of the function that it calls.
 use borrow.Author.Needs.{needs}
-use mathlib.Core.Path.{_≡_, ap₂, _∙_}
+use mathlib.Core.Path.{ap₂, _∙_}
 use mir.Syntax.{w64}
 use Rattle.whole.proofs.Held.{held, arg, given}
 use Rattle.word.specs.Words.{productOf}

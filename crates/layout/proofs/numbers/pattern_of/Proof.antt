@@ -1,9 +1,4 @@
-use borrow.Author.Needs.{needs}
-use mathlib.Core.Path.{_≡_, _∙_, ap}
-use Prim.Native.Nat.{ℕ, _-_}
 use native.Mathlib.Omega.{arith}
-use lib.IntN.{natAbs}
-use mir.Syntax.{w32}
 use mir.Facts.{toZ-ofZ}
 use Rattle.layout.proofs.Back.{high, low}
 use Rattle.layout.proofs.numbers.pattern_of.Statement.{statement}

@@ -1,71 +1,85 @@
 use borrow.Author.Needs.{needs}
-use mathlib.Core.Path.{_≡_, _∙_, sym, refl}
-use Prim.Native.Nat.{_≤_, _-_}
-use native.Mathlib.Omega.{arith}
+use mathlib.Core.Path.{_≡_, refl}
 use lib.ListN.{drop}
-use Rattle.layout.specs.Table.{rowOf, firstRow, rows, row, none}
-use Rattle.layout.specs.declared.table.Class.the-variants.{StartRecord}
+use Rattle.layout.specs.Table.{rows, firstRow, rowOf}
 use Rattle.layout.specs.declared.table.Row.{Row}
-use Rattle.formula.specs.declared.Kind.the-variants.{Polynomial}
 use Rattle.layout.proofs.TableLaws.{hit, miss}
 use Rattle.layout.proofs.table.row_of.Statement.{statement}
 use Rattle.layout.proofs.table.row_of.Tie as tie
 
-abbrev Inv-loop : tie.InvT-loop
-Inv-loop code i₀ i = (i ≤ 6) × (rowOf code ≡ firstRow code (drop i rows))
+-- past the first rows: what the further ones give is the answer
+past1 : (c : tie.Else1) {x : Row} → x ≡ firstRow (c .before .args .code) (drop 1 rows) → x ≡ rowOf (c .before .args .code)
+unfolding rowOf rows
+past1 c e = miss _ _ _ (c .if1 .left) e
 
-abbrev μ-loop : tie.MeasureT-loop
-μ-loop code i₀ i = 6 - i
+past2 : (c : tie.Else2) {x : Row} → x ≡ firstRow (c .before .before .args .code) (drop 2 rows) → x ≡ rowOf (c .before .before .args .code)
+unfolding rowOf rows
+past2 c e = past1 (c .before) (miss _ _ _ (c .if2 .left) e)
 
--- what the array gives past its end
-abbrev zeroRow : Row
-zeroRow = row 0 StartRecord Polynomial 0 0 none none none
+past3 : (c : tie.Else3) {x : Row} → x ≡ firstRow (c .before .before .before .args .code) (drop 3 rows) → x ≡ rowOf (c .before .before .before .args .code)
+unfolding rowOf rows
+past3 c e = past2 (c .before) (miss _ _ _ (c .if3 .left) e)
 
-loop-holds : tie.Need-loop-holds Inv-loop μ-loop
-unfolding rowOf
-loop-holds c = (search needs, refl)
+past4 : (c : tie.Else4) {x : Row} → x ≡ firstRow (c .before .before .before .before .args .code) (drop 4 rows) → x ≡ rowOf (c .before .before .before .before .args .code)
+unfolding rowOf rows
+past4 c e = past3 (c .before) (miss _ _ _ (c .if4 .left) e)
 
-mul-row : tie.Need-mul-row Inv-loop μ-loop
-mul-row c = search needs
+past5 : (c : tie.Else5) {x : Row} → x ≡ firstRow (c .before .before .before .before .before .args .code) (drop 5 rows) → x ≡ rowOf (c .before .before .before .before .before .args .code)
+unfolding rowOf rows
+past5 c e = past4 (c .before) (miss _ _ _ (c .if5 .left) e)
 
-array-copy-out-row : tie.Need-array-copy-out-row Inv-loop μ-loop
-array-copy-out-row c = search needs
+past6 : (c : tie.Else6) {x : Row} → x ≡ firstRow (c .before .before .before .before .before .before .args .code) (drop 6 rows) → x ≡ rowOf (c .before .before .before .before .before .before .args .code)
+unfolding rowOf rows
+past6 c e = past5 (c .before) (miss _ _ _ (c .if6 .left) e)
 
-returns : tie.Need-returns Inv-loop μ-loop
-unfolding rows
-returns c =
-    let l = c .before .before .before .before in
-    sym (l .loop .inv .1 ∙ hit _ rows (l .loop .i) zeroRow (search needs) (c .if1 .taken))
+returns : tie.Need-returns
+unfolding rowOf rows
+returns c = hit _ _ _ (c .before .if1 .taken)
 
-add-i : tie.Need-add-i Inv-loop μ-loop
-add-i c = search needs
+returns-2 : tie.Need-returns-2
+unfolding rowOf rows
+returns-2 c = past1 (c .before .before) (hit _ _ _ (c .before .if2 .taken))
 
-loop-less : tie.Need-loop-less Inv-loop μ-loop
-loop-less c = search needs
+returns-3 : tie.Need-returns-3
+unfolding rowOf rows
+returns-3 c = past2 (c .before .before) (hit _ _ _ (c .before .if3 .taken))
 
-loop-again : tie.Need-loop-again Inv-loop μ-loop
-unfolding rows
-loop-again c =
-    let l = c .before .before .before .before in
-    (search needs, l .loop .inv .1 ∙ miss _ rows (l .loop .i) zeroRow (search needs) (c .if1 .left))
+returns-4 : tie.Need-returns-4
+unfolding rowOf rows
+returns-4 c = past3 (c .before .before) (hit _ _ _ (c .before .if4 .taken))
 
-returns-2 : tie.Need-returns-2 Inv-loop μ-loop
+returns-5 : tie.Need-returns-5
+unfolding rowOf rows
+returns-5 c = past4 (c .before .before) (hit _ _ _ (c .before .if5 .taken))
+
+returns-6 : tie.Need-returns-6
+unfolding rowOf rows
+returns-6 c = past5 (c .before .before) (hit _ _ _ (c .before .if6 .taken))
+
+returns-7 : tie.Need-returns-7
 unfolding rows firstRow
-returns-2 c =
-    let e : c .before .loop .i ≡ 6 = omega arith in
-    sym (rw e at (c .before .loop .inv .1))
+returns-7 c = past6 c refl
 
 pub row-of-spec : {M : Type 1} → statement M
 row-of-spec =
     tie.close
     (tie.spec
-    Inv-loop
-    μ-loop
-    loop-holds
-    mul-row
-    array-copy-out-row
+    (λ c. search needs)
+    (λ c. search needs)
     returns
-    add-i
-    loop-less
-    loop-again
-    returns-2)
+    (λ c. search needs)
+    (λ c. search needs)
+    returns-2
+    (λ c. search needs)
+    (λ c. search needs)
+    returns-3
+    (λ c. search needs)
+    (λ c. search needs)
+    returns-4
+    (λ c. search needs)
+    (λ c. search needs)
+    returns-5
+    (λ c. search needs)
+    (λ c. search needs)
+    returns-6
+    returns-7)

@@ -1,5 +1,5 @@
 use borrow.Author.Needs.{needs}
-use mathlib.Core.Path.{_≡_, _∙_, sym, ap}
+use mathlib.Core.Path.{_∙_, sym, ap}
 use mir.Facts.{toZ-ofZ}
 use Rattle.admission.specs.Admission.{numberOf}
 use Rattle.sheet.proofs.faults.admission_fault.Statement.{statement}

@@ -10,7 +10,7 @@ use Rattle.sheet.proofs.faults.class_fault.Tie as tie
 formula-fault-requires : tie.Need-formula-fault-requires
 formula-fault-requires c κs =
     let h = c .before .before .before .pre in
-    held _ _ (h .0) (c .enum-told2 .given .1) (h .2) (h .3)
+    (held _ _ (h .0) (c .enum-told2 .given .1) (h .2) (h .3), h .4)
 
 -- by the class that the match told
 at : (c : tie.Start) {k : Class} → c .args .row .class ≡ k → classFault k (c .args .row) (now (c .args .b)) (c .args .w) ≡ classFault (c .args .row .class) (c .args .row) (now (c .args .b)) (c .args .w)

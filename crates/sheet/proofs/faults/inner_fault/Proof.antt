@@ -6,10 +6,10 @@ use mathlib.Core.List.{List}
 use lib.ListN.{length}
 use lib.Seq.{length-take-le}
 use lib.IntN.{ℤ}
-use Rattle.layout.specs.Fields.{shapeOf, loOf, hiOf, wordsBy, words, wordsOf, padded, formulaOf}
+use Rattle.layout.specs.Fields.{shapeOf, loOf, hiOf, wordsBy, wordsOf, padded, formulaOf}
 use Rattle.layout.proofs.Back.{back}
 use Rattle.layout.proofs.Padded.{length-words, length-padded, take-padded}
-use Rattle.sheet.specs.Faults.{valueFault, admissionFault, innerFault}
+use Rattle.sheet.specs.Faults.{valueFault, innerFault}
 use Rattle.sheet.proofs.Chain.{stop, pass}
 use Rattle.sheet.proofs.Values.{padded-fault}
 use Rattle.sheet.proofs.Soundness.{few-words, sound-record}
@@ -18,27 +18,26 @@ use Rattle.sheet.proofs.faults.inner_fault.Tie as tie
 
 words-by-requires : tie.Need-words-by-requires
 words-by-requires c κs =
-    let h = c .before .before .before .before .pre in
-    let e = c .before .before .shape-of .ensures in
-    (h .ruled, rw (← e) at (h .laid .p .1), rw (← e) at (h .laid .q .1))
+    let h = c .before .before .before .pre in
+    (h .0 .ruled, rw (← h .1) at (h .0 .laid .p .1), rw (← h .1) at (h .0 .laid .q .1))
 
 -- as many words as the record's counts ask for
 many : (c : tie.After-words-by) →
-    let a = c .before .before .before .before .before .args in
+    let a = c .before .before .before .before .args in
     c .words-by .result ≡ wordsBy (a .row) (shapeOf (a .row) (now (a .b)) .p) (shapeOf (a .row) (now (a .b)) .q)
-many c = rw (c .before .before .before .shape-of .ensures) at (c .words-by .ensures .0)
+many c = rw (c .before .before .before .before .pre .1) at (c .words-by .ensures .0)
 
 fill-words-requires : tie.Need-fill-words-requires
 unfolding padded
 fill-words-requires c κs =
-    (c .before .words-by .ensures .1, omega (arith, many (c .before), c .before .before .before .before .before .before .pre .laid .exact), refl)
+    (c .before .words-by .ensures .1, omega (arith, many (c .before), c .before .before .before .before .before .pre .0 .laid .exact), refl)
 
 array : tie.After-fill-words → List ℤ
 array c = c .fill-words .last .1 .1 .1 .0
 
 -- the array holds the record's words
 filled : (c : tie.After-fill-words) →
-    let a = c .before .before .before .before .before .before .before .args in
+    let a = c .before .before .before .before .before .before .args in
     (array c ≡ padded (wordsOf (a .row) (now (a .b)))) × (c .before .before .words-by .result ≡ length (wordsOf (a .row) (now (a .b))))
 unfolding array
 filled c =
@@ -47,8 +46,8 @@ filled c =
 
 long : (c : tie.After-fill-words) → length (array c) ≡ 32
 long c =
-    let s = c .before .before .before .before .before .before .before in
-    rw (filled c .0) (length-padded _ (few-words (s .args .row) (now (s .args .b)) (s .pre .ruled) (s .pre .laid)))
+    let s = c .before .before .before .before .before .before in
+    rw (filled c .0) (length-padded _ (few-words (s .args .row) (now (s .args .b)) (s .pre .0 .ruled) (s .pre .0 .laid)))
 
 array-share-prefix-words : tie.Need-array-share-prefix-words
 unfolding array
@@ -61,7 +60,7 @@ slice-aggregate-value-fault c =
 
 -- 6, of the record's own values
 value : (c : tie.After-value-fault) →
-    let a = c .before .before .before .before .before .before .before .before .before .args in
+    let a = c .before .before .before .before .before .before .before .before .args in
     let r = a .row in
     let b = now (a .b) in
     c .value-fault .result ≡ valueFault r (shapeOf r b) (loOf b) (hiOf b) (padded (wordsOf r b))
@@ -69,8 +68,8 @@ unfolding array
 value c =
     let f = c .before .before in
     let g = f .before .before .before in
-    let h = g .before .before in
-    rw (h .shape-of .ensures, back (search needs) (g .before .get-word .ensures), back (search needs) (g .get-word2 .ensures), filled f .0, filled f .1, take-padded) at (c .value-fault .ensures)
+    let s = g .before .before .before in
+    rw (s .pre .1, back (search needs) (g .before .get-word .ensures), back (search needs) (g .get-word2 .ensures), filled f .0, filled f .1, take-padded) at (c .value-fault .ensures)
     ∙ sym (padded-fault _ _ _ _ _)
 
 returns : tie.Need-returns
@@ -87,10 +86,9 @@ admission-fault-requires c κs =
     let v = c .before .before in
     let f = v .before .before in
     let g = f .before .before .before in
-    let h = g .before .before in
-    let s = h .before .before in
-    rw (h .shape-of .ensures, back (search needs) (g .before .get-word .ensures), back (search needs) (g .get-word2 .ensures), filled f .0)
-    (sound-record (s .args .row) (now (s .args .b)) (s .pre .ruled) (s .pre .laid) _ _ (s .pre .class) (sym (value v) ∙ c .before .if1 .left))
+    let s = g .before .before .before in
+    rw (s .pre .1, back (search needs) (g .before .get-word .ensures), back (search needs) (g .get-word2 .ensures), filled f .0)
+    (sound-record (s .args .row) (now (s .args .b)) (s .pre .0 .ruled) (s .pre .0 .laid) _ _ (s .pre .0 .class) (sym (value v) ∙ c .before .if1 .left))
 
 returns-2 : tie.Need-returns-2
 unfolding array innerFault formulaOf
@@ -98,15 +96,14 @@ returns-2 c =
     let v = c .before .before .before in
     let f = v .before .before in
     let g = f .before .before .before in
-    let h = g .before .before in
+    let s = g .before .before .before in
     pass (value v) (c .before .before .if1 .left)
-    (rw (h .shape-of .ensures, back (search needs) (g .before .get-word .ensures), back (search needs) (g .get-word2 .ensures), filled f .0) at (c .admission-fault .ensures))
+    (rw (s .pre .1, back (search needs) (g .before .get-word .ensures), back (search needs) (g .get-word2 .ensures), filled f .0) at (c .admission-fault .ensures))
 
 pub inner-fault-spec : {M : Type 1} → statement M
 inner-fault-spec =
     tie.close
     (tie.spec
-    (λ c κs. search needs)
     (λ c κs. search needs)
     (λ c κs. search needs)
     words-by-requires

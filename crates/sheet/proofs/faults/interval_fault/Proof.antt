@@ -1,6 +1,6 @@
 use borrow.Author.Needs.{needs}
 use mir.Facts.{toZ-ofZ}
-use Rattle.sheet.specs.Faults.{intervalFault, wordFault}
+use Rattle.sheet.specs.Faults.{intervalFault}
 use Rattle.sheet.proofs.Chain.{stop, pass}
 use Rattle.sheet.proofs.faults.interval_fault.Statement.{statement}
 use Rattle.sheet.proofs.faults.interval_fault.Tie as tie

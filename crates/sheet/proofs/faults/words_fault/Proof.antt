@@ -1,14 +1,13 @@
 use borrow.Author.Needs.{needs}
 use mathlib.Core.Path.{_≡_, _∙_, sym, refl}
 use Prim.Native.Nat.{_≤_, _-_}
-use native.Mathlib.Omega.{arith}
 use denote.Ref.{now}
 use lib.IntN.{pos}
 use lib.ListN.{length, getD, drop, drop-of-length-le}
 use mir.Syntax.{w32}
 use mir.Val.{SFits}
 use mir.Facts.{toZ-ofZ}
-use Rattle.sheet.specs.Faults.{wordFault, wordsFault}
+use Rattle.sheet.specs.Faults.{wordsFault}
 use Rattle.sheet.proofs.Values.{word-bad, word-good}
 use Rattle.sheet.proofs.faults.words_fault.Statement.{statement}
 use Rattle.sheet.proofs.faults.words_fault.Tie as tie

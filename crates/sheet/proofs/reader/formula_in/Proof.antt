@@ -1,5 +1,4 @@
 use borrow.Author.Needs.{needs}
-use mathlib.Core.Path.{_∙_}
 use Rattle.layout.proofs.Rule.{ruled, held}
 use Rattle.sheet.proofs.Lengths.{laid}
 use Rattle.sheet.proofs.reader.formula_in.Statement.{statement}

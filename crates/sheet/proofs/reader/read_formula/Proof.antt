@@ -1,8 +1,6 @@
 use borrow.Author.Needs.{needs}
-use mathlib.Core.Path.{_≡_, _∙_, sym, ap}
-use Prim.Native.Nat.{ℕ}
+use mathlib.Core.Path.{_∙_, sym, ap}
 use denote.Ref.{now}
-use Rattle.formula.specs.declared.Formula.{Formula}
 use Rattle.sheet.specs.Reader.{reading, foundAnswer, readAnswer, formulaRead}
 use Rattle.sheet.specs.declared.answers.Found.the-variants.{Given}
 use Rattle.sheet.proofs.Places.{standing, given}

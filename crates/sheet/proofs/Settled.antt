@@ -1,0 +1,13 @@
+-- Promise: each public function of the reader settles its result: two results that satisfy its contract are equal.
+use mathlib.Core.Path.{sym, _∙_}
+use Rattle.whole.proofs.Settled.{Settled}
+use Rattle.sheet.proofs.reader.formula_count.Kinds as count-kinds
+use Rattle.sheet.proofs.reader.formula_count.Reads as count-reads
+use Rattle.sheet.proofs.reader.read_formula.Kinds as formula-kinds
+use Rattle.sheet.proofs.reader.read_formula.Reads as formula-reads
+
+pub formula-count-settled : Settled count-kinds.ps count-kinds.r count-reads.Learnt
+formula-count-settled κs a x y s t p q = p ∙ sym q
+
+pub read-formula-settled : Settled formula-kinds.ps formula-kinds.r formula-reads.Learnt
+read-formula-settled κs a x y s t p q = p ∙ sym q

@@ -1,0 +1,104 @@
+"""Measures how far a formula's answers lie from its function, in steps.
+
+A step is 2^-24. Every value below, but for the argument x, is in steps.
+"""
+
+from math import sqrt
+from typing import NamedTuple
+
+from evaluation import answer_inside
+from functions import FUNCTIONS
+from number import ONE
+
+
+class Point(NamedTuple):
+    """What is had at one argument."""
+
+    x: float
+    true: float  # the function
+    own: float  # the formula with its numbers as printed, without rounding
+    answer: int  # the answer word
+
+
+class Errors(NamedTuple):
+    """The largest of each over the arguments asked."""
+
+    bound: float  # the printed bound, or None
+    own: float
+    answer: float
+    bound_missed: bool  # by the printed formula, by over 1/100 step somewhere
+
+
+def arguments(lo, hi, count):
+    """That many words from lo to hi, both ends among them, evenly spread."""
+    return [lo + (hi - lo) * i // (count - 1) for i in range(count)]
+
+
+def horner(coefficients, x):
+    value = 0.0
+    for c in reversed(coefficients):
+        value = value * x + c
+    return value
+
+
+def fraction(coefficients, mode, x):
+    b, a = coefficients[0::2], coefficients[1::2]
+    t = b[-1]
+    for j in range(len(a), 0, -1):
+        v = x if mode == 0 or (mode == 2 and j == 1) else x * x
+        t = b[j - 1] + a[j - 1] * v / t
+    return t
+
+
+def unrounded(kind, parts, mode, x):
+    """The value of a formula in doubles."""
+    if kind == "polynomial":
+        return horner(parts[0], x)
+    if kind == "rational":
+        return horner(parts[0], x) / horner(parts[1], x)
+    if kind == "fraction":
+        return fraction(parts[0], mode, x)
+    return sqrt(x)
+
+
+def points(printed, count):
+    """What is had at `count` arguments."""
+    kind, formula = printed.kind, printed.formula
+    function = FUNCTIONS[printed.function]
+    parts = [[float(value) for value in part] for part in printed.parts]
+    for word in arguments(formula.lo, formula.hi, count):
+        x = word / ONE
+        own = unrounded(kind, parts, formula.mode, x)
+        yield Point(x, function(x) * ONE, own * ONE,
+                    answer_inside(formula, word))
+
+
+def bound_at(printed, true):
+    """The printed bound where the function has this value."""
+    return float(printed.bound) * (abs(true) if printed.relative else ONE)
+
+
+def measure(printed, count):
+    """The errors of a formula over `count` arguments."""
+    had = list(points(printed, count))
+    own = max(abs(point.own - point.true) for point in had)
+    answer = max(abs(point.answer - point.true) for point in had)
+    if printed.bound is None:
+        return Errors(None, own, answer, False)
+    bound = max(bound_at(printed, point.true) for point in had)
+    missed = any(
+        abs(point.own - point.true) > bound_at(printed, point.true) + 0.01
+        for point in had)
+    return Errors(bound, own, answer, missed)
+
+
+def rounding_is_small(printed, count):
+    """Whether a polynomial's answers keep near the printed polynomial.
+
+    Typing its n + 1 numbers costs at most half a step each, times |x|^k, and
+    its n rounded products at most half of 1 + |x| + .. + |x|^(n-1).
+    """
+    n = len(printed.parts[0]) - 1
+    return all(
+        abs(point.answer - point.own) <= horner([1] * n + [0.5], abs(point.x))
+        for point in points(printed, count))

@@ -1,0 +1,18 @@
+#!/usr/bin/env bash
+# The second program: its own checks, and that the committed vectors are the ones that it makes.
+set -u
+cd "$(dirname "$0")/.." || exit 2
+. tests/lib.sh
+room=$(mktemp -d)
+trap 'rm -rf "$room"' EXIT
+
+last=$(python3 -B oracle/check.py | tail -n 1)
+if [[ $last =~ ^([0-9]+)\ passed,\ 0\ failed$ ]] && [ "${BASH_REMATCH[1]}" -gt 0 ]; then pass; else fail "oracle/check.py: $last"; fi
+if python3 -B oracle/vectors.py "$room/vectors" >"$room/table" && python3 -c '
+import lzma, sys
+sys.exit(lzma.open("oracle/vectors.xz").read() != open(sys.argv[1], "rb").read())' "$room/vectors"; then
+    pass
+else
+    fail 'oracle/vectors.xz is not what oracle/vectors.py makes'
+fi
+conclude
