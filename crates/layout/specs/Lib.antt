@@ -1,3 +1,4 @@
+-- Sheet layout, as document 01 has it.
 pub mod Numbers
 pub mod Table
 pub mod Fields

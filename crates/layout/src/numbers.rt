@@ -29,7 +29,7 @@ pub fn get4(s: &[u8], at: usize) -> u32
 }
 
 // The 32-bit pattern as a signed number.
-pub fn signed(n: u32) -> i32
+fn signed(n: u32) -> i32
     ensures { λ r. ⌜ r ≡ toZ w32 n ⌝ }
 {
     if n < 0x8000_0000 {
@@ -47,7 +47,7 @@ pub fn get_word(s: &[u8], at: usize) -> i32
 }
 
 // The 32-bit pattern of a signed number.
-pub fn pattern_of(x: i32) -> u32
+fn pattern_of(x: i32) -> u32
     ensures { λ r. ⌜ r ≡ pattern x ⌝ }
 {
     if 0 <= x { x as u32 } else { !(!x as u32) }

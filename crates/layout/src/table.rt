@@ -140,7 +140,8 @@ const UNKNOWN: Row = Row {
     mode: NONE,
 };
 
-// Row by row at known places: a search by a running place would copy the whole table for each record.
+// Row by row at known places, which the compiler turns into a choice between constants; with a running place it would
+// store the whole table for each record.
 pub fn row_of(code: u16) -> Row
     ensures { λ r. ⌜ r ≡ rowOf code ⌝ }
 {

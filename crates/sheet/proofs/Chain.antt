@@ -19,6 +19,14 @@ stop b e h = halts (λ (n : ℕ). n) b e h refl
 pub pass : {r a s b : ℕ} → r ≡ a → r ≡ 0 → s ≡ b → s ≡ orElse a b
 pass e z f = goes (λ (n : ℕ). n) e z f
 
+-- a chain may be cut anywhere
+pub or-assoc : (a b c : ℕ) → orElse (orElse a b) c ≡ orElse a (orElse b c)
+or-assoc a b c = at (eqb a 0) refl
+  where
+    at : (t : Bool) → eqb a 0 ≡ t → cond (eqb (cond t b a) 0) c (cond t b a) ≡ cond t (cond (eqb b 0) c b) a
+    at true e = refl
+    at false e = rw e refl
+
 -- ---- and back: what it says that there is no fault
 
 -- a test whose true side is a fault did not hold

@@ -1,3 +1,4 @@
+-- Laws, lowest first.
 pub mod Chain
 pub mod Lengths
 pub mod Values
@@ -9,6 +10,7 @@ pub mod Records
 pub mod WalkToShape
 pub mod ShapeToWalk
 pub mod Places
+-- Promises.
 pub mod OneToNine
 pub mod SameRefusal
 pub mod AcceptedShape

@@ -1,24 +1,25 @@
 -- The stored values of a formula: tests of words.
-use mathlib.Core.Path.{_≡_, refl, sym, ap}
+use mathlib.Core.Path.{_≡_, refl, sym, ap, ap₂, _∙_}
 use mathlib.Core.List.{List, [], _∷_, _++_}
-use mathlib.Core.Bool.{Bool, true, false}
-use Prim.Native.Nat.{ℕ, zero, suc, _+_, _-_, _<_}
+use mathlib.Core.Bool.{Bool, true, false, cond}
+use Prim.Native.Nat.{ℕ, zero, suc, _+_, _-_, _*_, _<_}
 use native.Mathlib.Numerals.{add-one}
 use native.Mathlib.Omega.{arith}
-use lib.Dec.{ltb}
+use lib.Dec.{ltb, eqb}
 use lib.ListN.{length, getD, drop, replicate}
 use lib.Seq.{drop-cons}
 use lib.IntN.{ℤ, pos, negsuc, natAbs}
 use lib.Signed.{ltZ}
 use mir.Syntax.{w32}
 use mir.Val.{SFits}
-use borrow.Author.Tests.{lt-ltb, le-ltb, ltb-true, ltb-false}
+use borrow.Author.Tests.{lt-ltb, le-ltb, ltb-true, ltb-false, eqb-true, ne-eqb}
 use Rattle.formula.specs.declared.Shape.{Shape}
 use Rattle.layout.specs.declared.table.Row.{Row}
-use Rattle.layout.specs.Fields.{padded}
+use Rattle.layout.specs.Fields.{words, padded}
 use Rattle.sheet.specs.Guard.{orElse}
-use Rattle.sheet.specs.Faults.{wordFault, wordsFault, valueFault}
-use Rattle.sheet.proofs.Chain.{halts, goes}
+use Rattle.layout.specs.Numbers.{word4}
+use Rattle.sheet.specs.Faults.{wordFault, wordsFault, outside, intervalFault, kindFault, ownFault, valueFault}
+use Rattle.sheet.proofs.Chain.{halts, goes, stop, pass, or-assoc}
 
 -- below the least word is the same as no word
 pub no-word : (z : ℤ) → SFits w32 z → ltZ z (negsuc 2147483646) ≡ ltb 2147483647 (natAbs z)
@@ -54,3 +55,42 @@ behind (x ∷ l) z e = ap (orElse (wordFault x)) (behind l z e)
 pub padded-fault : (r : Row) (h : Shape) (lo hi : ℤ) (l : List ℤ) → valueFault r h lo hi (padded l) ≡ valueFault r h lo hi l
 unfolding valueFault padded
 padded-fault r h lo hi l = rw (behind l (replicate (32 - length l) (pos 0)) (zeros (32 - length l)))
+
+-- all but the words, and then the words
+pub own-then-words : (r : Row) (h : Shape) (lo hi : ℤ) (l : List ℤ) → orElse (ownFault r h lo hi) (wordsFault l) ≡ valueFault r h lo hi l
+unfolding ownFault valueFault
+own-then-words r h lo hi l =
+    let k = kindFault (r .kind) lo in
+    let m = outside (r .mode) (h .mode) 6 in
+    or-assoc (intervalFault lo hi) (orElse m k) (wordsFault l) ∙ ap (orElse (intervalFault lo hi)) (or-assoc m k (wordsFault l))
+
+-- ---- words read one after the other
+one-more : (l : List ℤ) (z : ℤ) → wordsFault (l ++ (z ∷ [])) ≡ orElse (wordsFault l) (wordFault z)
+unfolding wordsFault
+one-more [] z = or-zero (wordFault z)
+  where
+    or-zero : (a : ℕ) → orElse a 0 ≡ orElse 0 a
+    or-zero a = at (eqb a 0) refl
+      where
+        at : (t : Bool) → eqb a 0 ≡ t → cond t 0 a ≡ a
+        at true e = sym (eqb-true a 0 e)
+        at false e = refl
+one-more (x ∷ l) z = ap (orElse (wordFault x)) (one-more l z) ∙ sym (or-assoc (wordFault x) (wordsFault l) (wordFault z))
+
+module _ (b : List ℕ) (at i : ℕ) (fine : wordsFault (words b at i) ≡ 0) {f : ℕ} (e : f ≡ wordFault (word4 b (at + 4 * i))) where
+  -- one word more, at any length
+  longer : (m : ℕ) → wordsFault (words b at (suc m)) ≡ orElse (wordsFault (words b at m)) (wordFault (word4 b (at + 4 * m)))
+  unfolding words
+  longer m = one-more (words b at m) (word4 b (at + 4 * m))
+
+  -- the word at i is none: so it is in the run of any length past it
+  pub bad-word : (f ≡ 0 → ⊥) → (k : ℕ) → f ≡ wordsFault (words b at (suc i + k))
+  bad-word h zero =
+      let n : suc i ≡ suc i + 0 = omega arith in
+      pass refl fine e ∙ sym (longer i) ∙ ap (λ (m : ℕ). wordsFault (words b at m)) n
+  bad-word h (suc k) =
+      let n : suc (suc i + k) ≡ suc i + suc k = omega arith in
+      stop _ (bad-word h k) h ∙ sym (longer (suc i + k)) ∙ ap (λ (m : ℕ). wordsFault (words b at m)) n
+
+  pub good-word : f ≡ 0 → wordsFault (words b at (i + 1)) ≡ 0
+  good-word h = rw (add-one i) (longer i ∙ sym (pass refl fine (sym h ∙ e)))

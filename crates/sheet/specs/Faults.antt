@@ -103,6 +103,13 @@ valueFault r h lo hi ws =
     (orElse (kindFault (r .kind) lo)
     (wordsFault ws)))
 
+-- of these, all but the words
+unfoldable pub ownFault : Row → Shape → ℤ → ℤ → ℕ
+ownFault r h lo hi =
+    orElse (intervalFault lo hi)
+    (orElse (outside (r .mode) (h .mode) 6)
+    (kindFault (r .kind) lo))
+
 -- binary places of every word
 abbrev pub places : ℕ
 places = 24

@@ -1,11 +1,12 @@
 // What a record is refused for: each function gives the paper's number, or 0 for none.
 ghost use mathlib.Core.Path.{_≡_};
-ghost use Prim.Native.Nat.{_+_, _<_, _≤_};
+ghost use mathlib.Core.List.{[]};
+ghost use Prim.Native.Nat.{_+_, _*_, _<_, _≤_};
 ghost use lib.ListN.{length};
 ghost use Rattle.formula.specs.Formula.{Sound};
 ghost use Rattle.layout.specs.Rule.{Ruled, Held};
-ghost use Rattle.layout.specs.Fields.{shapeOf, formulaOf, Laid};
-ghost use Rattle.sheet.specs.Faults.{frameFault, placeFault, outside, countFault, sizeFault, startFault, orderFault, endFault, wordFault, wordsFault, intervalFault, kindFault, valueFault, admissionFault, innerFault, formulaFault, classFault, recordFault};
+ghost use Rattle.layout.specs.Fields.{shapeOf, formulaOf, Laid, words, padded};
+ghost use Rattle.sheet.specs.Faults.{frameFault, placeFault, outside, countFault, sizeFault, startFault, orderFault, endFault, wordFault, wordsFault, intervalFault, kindFault, ownFault, valueFault, admissionFault, innerFault, formulaFault, classFault, recordFault};
 use crate::walking::Walk;
 use admission::Admission;
 use formula::Kind;
@@ -66,7 +67,7 @@ fn place_fault(class: Class, at: usize) -> u8
     }
 }
 
-pub fn outside(field: Field, n: u16, number: u8) -> u8
+fn outside(field: Field, n: u16, number: u8) -> u8
     ensures { λ r. ⌜ r ≡ outside field n number ⌝ }
 {
     if n < field.least {
@@ -78,7 +79,7 @@ pub fn outside(field: Field, n: u16, number: u8) -> u8
     0
 }
 
-pub fn count_fault(row: Row, p: u16, q: u16) -> u8
+fn count_fault(row: Row, p: u16, q: u16) -> u8
     ensures { λ r. ⌜ r ≡ countFault row p q ⌝ }
 {
     let first = row.p;
@@ -198,8 +199,9 @@ fn kind_fault(kind: Kind, lo: i32) -> u8
     }
 }
 
-fn value_fault(row: Row, shape: Shape, lo: i32, hi: i32, words: &[i32]) -> u8
-    ensures { λ r. ⌜ r ≡ valueFault row shape lo hi (now (words .entry)) ⌝ }
+// 6 of all but the words: the interval, the mode, the kind's own.
+fn own_fault(row: Row, shape: Shape, lo: i32, hi: i32) -> u8
+    ensures { λ r. ⌜ r ≡ ownFault row shape lo hi ⌝ }
 {
     let f = interval_fault(lo, hi);
     if f != 0 {
@@ -211,11 +213,36 @@ fn value_fault(row: Row, shape: Shape, lo: i32, hi: i32, words: &[i32]) -> u8
         return g;
     }
     let kind = row.kind;
-    let h = kind_fault(kind, lo);
-    if h != 0 {
-        return h;
+    kind_fault(kind, lo)
+}
+
+pub fn value_fault(row: Row, shape: Shape, lo: i32, hi: i32, words: &[i32]) -> u8
+    ensures { λ r. ⌜ r ≡ valueFault row shape lo hi (now (words .entry)) ⌝ }
+{
+    let f = own_fault(row, shape, lo, hi);
+    if f != 0 {
+        return f;
     }
     words_fault(words)
+}
+
+// Reads the m words from a place on into an array of zeros; 6 at the first that is no word.
+fn read_words(b: &[u8], at: usize, m: usize, out: &mut [i32; 32]) -> u8
+    requires { ⌜ (m ≤ 32) × (at + 4 * m ≤ length (now b)) × (now out ≡ padded []) ⌝ }
+    ensures { λ r. ⌜ r ≡ wordsFault (words (now (b .entry)) at m) ⌝ }
+    ensures { λ r. ⌜ (r ≡ 0 → now (out .exit) ≡ padded (words (now (b .entry)) at m)) ⌝ }
+{
+    let mut i: usize = 0;
+    while i < m {
+        let w = numbers::get_word(b, at + 4 * i);
+        let f = word_fault(w);
+        if f != 0 {
+            return f;
+        }
+        out[i] = w;
+        i += 1;
+    }
+    0
 }
 
 fn admission_fault(shape: Shape, lo: i32, hi: i32, words: &[i32]) -> u8
@@ -229,19 +256,22 @@ fn admission_fault(shape: Shape, lo: i32, hi: i32, words: &[i32]) -> u8
     }
 }
 
-// The words are read once, into an array that the two checks are lent.
+// The words are read once, into an array that admission is lent.
 fn inner_fault(b: &[u8], row: Row, shape: Shape) -> u8
     requires { ⌜ Held row (now b) × (shape ≡ shapeOf row (now b)) ⌝ }
     ensures { λ r. ⌜ r ≡ innerFault row (formulaOf row (now (b .entry))) ⌝ }
 {
     let lo = numbers::get_word(b, 8);
     let hi = numbers::get_word(b, 12);
-    let m = fields::words_by(row, shape.p, shape.q);
-    let mut words = [0i32; 32];
-    fields::fill_words(b, row.head, m, &mut words);
-    let f = value_fault(row, shape, lo, hi, &words[..m]);
+    let f = own_fault(row, shape, lo, hi);
     if f != 0 {
         return f;
+    }
+    let m = fields::words_by(row, shape.p, shape.q);
+    let mut words = [0i32; 32];
+    let g = read_words(b, row.head, m, &mut words);
+    if g != 0 {
+        return g;
     }
     admission_fault(shape, lo, hi, &words)
 }

@@ -1,5 +1,5 @@
 // Sheets: the checks of each record in the paper's order, the walk over a sheet, and the reader.
 pub mod answers;
-mod faults;
+pub mod faults;
 pub mod reader;
-mod walking;
+pub mod walking;

@@ -1,45 +1,28 @@
 use borrow.Author.Needs.{needs}
-use mathlib.Core.Path.{_≡_}
+use mathlib.Core.Path.{_≡_, _∙_}
 use mir.Facts.{toZ-ofZ}
-use Rattle.sheet.specs.Faults.{intervalFault, kindFault, valueFault}
+use denote.Ref.{now}
+use Rattle.sheet.specs.Faults.{ownFault, wordsFault, valueFault}
 use Rattle.sheet.proofs.Chain.{stop, pass}
+use Rattle.sheet.proofs.Values.{own-then-words}
 use Rattle.sheet.proofs.faults.value_fault.Statement.{statement}
 use Rattle.sheet.proofs.faults.value_fault.Tie as tie
 
--- the first link, of the numbers that were handed in
-interval : (c : tie.After-interval-fault) → c .interval-fault .result ≡ intervalFault (c .before .args .lo) (c .before .args .hi)
-interval c = rw (toZ-ofZ (c .before .fits .lo), toZ-ofZ (c .before .fits .hi)) at (c .interval-fault .ensures)
-
--- and the third
-kind : (c : tie.After-kind-fault) →
-    let s = c .before .before .before .before .before .before in
-    c .kind-fault .result ≡ kindFault (s .args .row .kind) (s .args .lo)
-kind c = rw (toZ-ofZ (c .before .before .before .before .before .before .fits .lo)) at (c .kind-fault .ensures)
+own : (c : tie.After-own-fault) →
+    let a = c .before .args in
+    c .own-fault .result ≡ ownFault (a .row) (a .shape) (a .lo) (a .hi)
+own c = rw (toZ-ofZ (c .before .fits .lo), toZ-ofZ (c .before .fits .hi)) at (c .own-fault .ensures)
 
 returns : tie.Need-returns
-unfolding valueFault
-returns c = stop _ (interval (c .before)) (c .if1 .taken)
+returns c =
+    let a = c .before .before .args in
+    stop _ (own (c .before)) (c .if1 .taken) ∙ own-then-words (a .row) (a .shape) (a .lo) (a .hi) (now (a .words))
 
 returns-2 : tie.Need-returns-2
-unfolding valueFault
 returns-2 c =
-    let i = c .before .before .before in
-    pass (interval (i .before)) (i .if1 .left) (stop _ (c .before .outside .ensures) (c .if2 .taken))
-
-returns-3 : tie.Need-returns-3
-unfolding valueFault
-returns-3 c =
-    let m = c .before .before in
-    let i = m .before .before .before in
-    pass (interval (i .before)) (i .if1 .left) (pass (m .before .outside .ensures) (m .if2 .left) (stop _ (kind (c .before)) (c .if3 .taken)))
-
-returns-4 : tie.Need-returns-4
-unfolding valueFault
-returns-4 c =
-    let k = c .before in
-    let m = k .before .before in
-    let i = m .before .before .before in
-    pass (interval (i .before)) (i .if1 .left) (pass (m .before .outside .ensures) (m .if2 .left) (pass (kind (k .before)) (k .if3 .left) (c .words-fault .ensures)))
+    let i = c .before in
+    let a = i .before .before .args in
+    pass (own (i .before)) (i .if1 .left) (c .words-fault .ensures) ∙ own-then-words (a .row) (a .shape) (a .lo) (a .hi) (now (a .words))
 
 pub value-fault-spec : {M : Type 1} → statement M
 value-fault-spec =
@@ -48,8 +31,4 @@ value-fault-spec =
     (λ c κs. search needs)
     returns
     (λ c κs. search needs)
-    returns-2
-    (λ c κs. search needs)
-    returns-3
-    (λ c κs. search needs)
-    returns-4)
+    returns-2)
