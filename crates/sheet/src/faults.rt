@@ -79,7 +79,7 @@ fn outside(field: Field, n: u16, number: u8) -> u8
     0
 }
 
-fn count_fault(row: Row, p: u16, q: u16) -> u8
+pub fn count_fault(row: Row, p: u16, q: u16) -> u8
     ensures { λ r. ⌜ r ≡ countFault row p q ⌝ }
 {
     let first = row.p;
@@ -245,7 +245,7 @@ fn read_words(b: &[u8], at: usize, m: usize, out: &mut [i32; 32]) -> u8
     0
 }
 
-fn admission_fault(shape: Shape, lo: i32, hi: i32, words: &[i32]) -> u8
+pub fn admission_fault(shape: Shape, lo: i32, hi: i32, words: &[i32]) -> u8
     requires { ⌜ Sound shape lo hi (now words) ⌝ }
     ensures { λ r. ⌜ r ≡ admissionFault shape lo hi (now (words .entry)) ⌝ }
 {

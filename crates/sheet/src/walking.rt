@@ -60,7 +60,7 @@ fn found_by(w: Walk, number: u32) -> usize
     w.found
 }
 
-fn after_formula(b: &[u8], w: Walk) -> Walk
+pub fn after_formula(b: &[u8], w: Walk) -> Walk
     requires { ⌜ (8 ≤ length (now b)) × (w .at + length (now b) < 9223372036854775808) × (w .seen < w .count) ⌝ }
     ensures { λ r. ⌜ r ≡ afterFormula (now (b .entry)) w ⌝ }
 {

@@ -33,9 +33,10 @@ returns : tie.Need-returns Inv-loop μ-loop
 returns c =
     let l = c .before .before .before .before in
     let a = l .before .before .args in
-    let k : suc (l .loop .i) + (a .m - suc (l .loop .i)) ≡ a .m = omega (arith, c .before .before .before .loop-test .taken) in
-    (bad-word _ _ (l .loop .i) (l .loop .inv .2) (fault (c .before)) (c .if1 .taken) (a .m - suc (l .loop .i)) ∙ ap (λ (n : ℕ). wordsFault (words (now (a .b)) (a .at) n)) k,
-    λ z. absurd (c .if1 .taken z))
+    let k : suc (l .loop .i) + (a .m - suc (l .loop .i)) ≡ a .m = omega (arith, c .before .before .before .loop-test .taken) in (
+      bad-word _ _ (l .loop .i) (l .loop .inv .2) (fault (c .before)) (c .if1 .taken) (a .m - suc (l .loop .i)) ∙ ap (λ (n : ℕ). wordsFault (words (now (a .b)) (a .at) n)) k,
+      λ z. absurd (c .if1 .taken z),
+    )
 
 loop-again : tie.Need-loop-again Inv-loop μ-loop
 loop-again c =

@@ -1,0 +1,39 @@
+-- The record writer's faults, a link at a time.
+use mathlib.Core.Path.{_≡_, sym}
+use Prim.Native.Nat.{ℕ, _≤_}
+use native.Mathlib.Omega.{arith}
+use lib.Dec.{ltb}
+use borrow.Author.Tests.{ltb-false}
+use Rattle.formula.specs.declared.Formula.{Formula}
+use Rattle.layout.specs.declared.table.Row.{Row}
+use Rattle.layout.specs.Fields.{lengthBy}
+use Rattle.layout.proofs.Rule.{ruled}
+use Rattle.sheet.specs.Faults.{innerFault}
+use Rattle.sheet.proofs.Chain.{passed, neither}
+use Rattle.sheet.proofs.Lengths.{counted}
+use Rattle.writer.specs.Kinds.{codeFor, onlyFormula, plainShape, plainBy, rowBy}
+use Rattle.writer.specs.Bytes.{Ready}
+use Rattle.writer.specs.RecordWriter.{kindAndCounts, valuesAndRoom}
+use Rattle.writer.proofs.KindLaws.{kind-of-row, formula-only, ordered}
+
+pub ready : (f : Formula) → kindAndCounts (rowBy f) (plainShape (rowBy f) (f .shape) .p) (plainShape (rowBy f) (f .shape) .q) ≡ 0 → Ready (rowBy f) (plainBy (rowBy f) f)
+unfolding kindAndCounts plainBy plainShape
+ready f e =
+    let r = rowBy f in
+    let n = neither (onlyFormula (r .class)) _ e in
+    let k = formula-only (r .class) (n .0) in
+    let w = counted r (plainShape r (f .shape) .p) (plainShape r (f .shape) .q) (n .1) in
+    record {
+      ruled = ruled (codeFor (f .shape .kind));
+      ordered = ordered (codeFor (f .shape .kind)) k;
+      class = k;
+      kind = sym (kind-of-row (f .shape .kind));
+      p = w .0;
+      q = w .1;
+    }
+
+pub room : (r : Row) (f : Formula) (n : ℕ) → valuesAndRoom r f n ≡ 0 → (innerFault r f ≡ 0) × (lengthBy r (f .shape .p) (f .shape .q) ≤ n)
+unfolding valuesAndRoom
+room r f n e =
+    let v = neither (innerFault r f) _ e in
+    (v .0, ltb-false _ _ (passed (ltb n (lengthBy r (f .shape .p) (f .shape .q))) 12 0 (λ z. omega arith) (v .1) .0))

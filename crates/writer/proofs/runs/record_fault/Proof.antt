@@ -1,0 +1,40 @@
+use borrow.Author.Needs.{needs}
+use mathlib.Core.Path.{_≡_}
+use denote.Ref.{now}
+use Rattle.layout.proofs.Rule.{ruled}
+use Rattle.sheet.specs.Faults.{rowFor}
+use Rattle.sheet.proofs.Chain.{stop, pass}
+use Rattle.writer.specs.Runs.{runRecordFault}
+use Rattle.writer.proofs.runs.record_fault.Statement.{statement}
+use Rattle.writer.proofs.runs.record_fault.Tie as tie
+
+row : (c : tie.After-row-of) → c .row-of .result ≡ rowFor (now (c .before .before .before .args .b))
+row c = rw (c .before .get2 .ensures) at (c .row-of .ensures)
+
+returns : tie.Need-returns
+unfolding runRecordFault
+returns c = stop _ (rw (row (c .before .before)) at (c .before .only-formula .ensures)) (c .if1 .taken)
+
+record-fault-requires : tie.Need-record-fault-requires
+record-fault-requires c κs =
+    let r = c .before .before in
+    let s = r .before .before .before in
+    (rw (r .row-of .ensures) (ruled _), s .pre .0, s .pre .1)
+
+returns-2 : tie.Need-returns-2
+unfolding runRecordFault
+returns-2 c =
+    let i = c .before in
+    let r = i .before .before in
+    pass (rw (row r) at (i .before .only-formula .ensures)) (i .if1 .left) (rw (row r) at (c .record-fault .ensures))
+
+pub record-fault-spec : {M : Type 1} → statement M
+record-fault-spec =
+    tie.close
+    (tie.spec
+    (λ c κs. search needs)
+    (λ c κs. search needs)
+    (λ c κs. search needs)
+    returns
+    record-fault-requires
+    returns-2)

@@ -1,0 +1,6 @@
+pub mod Answers
+pub mod Kinds
+pub mod Bytes
+pub mod RecordWriter
+pub mod Runs
+pub mod SheetWriter

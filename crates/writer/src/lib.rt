@@ -1,0 +1,7 @@
+// The record writer and the sheet writer.
+pub mod answers;
+mod bytes;
+mod kinds;
+pub mod record_writer;
+mod runs;
+pub mod sheet_writer;
