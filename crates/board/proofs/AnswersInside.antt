@@ -13,7 +13,7 @@ use Rattle.word.specs.Words.{Word, NotZero}
 use Rattle.admission.specs.Lists.{All}
 use Rattle.door.specs.Taken.{takenOf}
 use Rattle.door.specs.declared.answer.Taken.the-variants.{Word as Took, NoWord, NotFinite}
-use Rattle.sheet.specs.Faults.{places}
+use Rattle.records.specs.Faults.{places}
 use Rattle.sheet.specs.Reader.{formulaRead, Answered}
 use Rattle.sheet.specs.declared.answers.Found.{Found}
 use Rattle.sheet.proofs.FormulasGiven.{given-fits, given-found}

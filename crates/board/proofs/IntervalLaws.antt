@@ -6,7 +6,7 @@ use lib.IntN.{ℤ}
 use lib.Signed.{_≤ℤ_, _<ℤ_, ltZ, clashℤ}
 use Rattle.formula.specs.declared.Formula.{Formula}
 use Rattle.formula.specs.Formula.{answerOf, Answerable}
-use Rattle.sheet.specs.Faults.{places}
+use Rattle.records.specs.Faults.{places}
 use Rattle.sheet.proofs.FormulasGiven.{Fit}
 use Rattle.board.specs.Board.{refused, answered, answerAt}
 use Rattle.board.specs.declared.answers.Evaluation.{Evaluation}

@@ -6,7 +6,7 @@ use Rattle.sheet.specs.Reader.{foundNumber, formulaRead}
 use Rattle.sheet.specs.declared.answers.Found.{Found}
 use Rattle.sheet.specs.declared.answers.Found.the-variants.{Given, Refused as Withheld}
 use Rattle.sheet.specs.declared.answers.Reading.{Reading}
-use Rattle.sheet.specs.declared.answers.Refusal.{Refusal}
+use Rattle.records.specs.declared.refusal.Refusal.{Refusal}
 use Rattle.formula.specs.declared.Formula.{Formula}
 use Rattle.sheet.proofs.FormulasGiven.{Fit, given-fits}
 use Rattle.board.specs.Board.{whenGiven}

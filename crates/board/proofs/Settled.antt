@@ -4,7 +4,7 @@ use denote.Ref.{now}
 use Rattle.whole.proofs.Settled.{Settled}
 use Rattle.door.proofs.Determined.{exactly-unique, ends-unique}
 use Rattle.sheet.specs.Reader.{formulaRead}
-use Rattle.sheet.specs.Faults.{places}
+use Rattle.records.specs.Faults.{places}
 use Rattle.sheet.specs.declared.answers.Found.{Found}
 use Rattle.sheet.specs.declared.answers.Found.the-variants.{Given, Refused as Withheld}
 use Rattle.formula.specs.declared.Formula.{Formula}

@@ -10,7 +10,7 @@ use Rattle.polynomial.specs.Distance.{exactSum, spreadSum}
 use Rattle.formula.proofs.Distance.{polynomialShape, polynomial-distance}
 use Rattle.formula.specs.declared.Shape.{Shape}
 use Rattle.formula.specs.Formula.{Sound, answerOf}
-use Rattle.sheet.specs.Faults.{places}
+use Rattle.records.specs.Faults.{places}
 use Rattle.sheet.specs.Reader.{Answered}
 use Rattle.sheet.proofs.FormulasGiven.{given-fits}
 use Rattle.board.specs.Board.{wordOf, evaluated}

@@ -12,8 +12,8 @@ use Rattle.door.specs.declared.answer.Taken.{Taken}
 use Rattle.door.specs.declared.answer.Taken.the-variants.{Word, NoWord, NotFinite}
 use Rattle.door.specs.Taken.{takenOf}
 use Rattle.door.specs.Exact.{Exactly}
-use Rattle.sheet.specs.Faults.{places}
-use Rattle.sheet.specs.Walking.{refusal}
+use Rattle.records.specs.Faults.{places}
+use Rattle.records.specs.Walking.{refusal}
 use Rattle.sheet.specs.Reader.{formulaRead}
 use Rattle.sheet.specs.declared.answers.Found.{Found}
 use Rattle.sheet.specs.declared.answers.Found.the-variants.{Given, Refused as Withheld}

@@ -12,8 +12,8 @@ use answers::Shown;
 use answers::Worked;
 use door::answer::Taken;
 use formula::Formula;
+use records::refusal::Refusal;
 use sheet::answers::Found;
-use sheet::answers::Refusal;
 use sheet::reader;
 
 // Binary places of every word.

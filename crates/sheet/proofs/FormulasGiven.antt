@@ -13,18 +13,18 @@ use Rattle.admission.specs.Admission.{numberOf}
 use Rattle.formula.specs.Formula.{Sound, admissionOf}
 use Rattle.layout.specs.Fields.{codeOf, formulaNumber, shapeOf, loOf, hiOf, wordsOf, padded, formulaOf}
 use Rattle.layout.proofs.Rule.{ruled}
-use Rattle.sheet.specs.Faults.{rowFor, valueFault, places, innerFault}
-use Rattle.sheet.specs.Walking.{refusal}
-use Rattle.sheet.specs.Sheets.{FormulaBytes, Has, SheetOf}
+use Rattle.records.specs.Faults.{rowFor, valueFault, places, innerFault}
+use Rattle.records.specs.Walking.{refusal}
+use Rattle.records.specs.Sheets.{FormulaBytes, Has, SheetOf}
 use Rattle.sheet.specs.Reader.{countNumber, formulaCount, foundNumber, foundPlace, reading, withheld, foundAnswer, readAnswer, formulaRead, Accepted, Answered}
 use Rattle.sheet.specs.declared.answers.FormulaCount.{FormulaCount}
 use Rattle.sheet.specs.declared.answers.FormulaCount.the-variants.{Count, Refused}
 use Rattle.sheet.specs.declared.answers.Found.the-variants.{Given}
 use Rattle.sheet.specs.declared.answers.Reading.{Reading}
-use Rattle.sheet.proofs.Chain.{neither}
-use Rattle.sheet.proofs.Lengths.{laid}
-use Rattle.sheet.proofs.Soundness.{sound-record}
-use Rattle.sheet.proofs.ShapeToWalk.{placeIn}
+use Rattle.records.proofs.Chain.{neither}
+use Rattle.records.proofs.Lengths.{laid}
+use Rattle.records.proofs.Soundness.{sound-record}
+use Rattle.records.proofs.ShapeToWalk.{placeIn}
 use Rattle.sheet.proofs.AcceptedShape.{accepted-shape, walk-of}
 use Rattle.sheet.proofs.SameRefusal.{same-refusal}
 use Rattle.sheet.proofs.Places.{At, noted, has, stands, given}

@@ -23,15 +23,15 @@ use Rattle.layout.specs.declared.table.Field.{Field}
 use Rattle.layout.specs.declared.table.Row.{Row}
 use Rattle.layout.specs.Fields.{countOf, formulaNumber, shapeOf, lengthBy, formulaOf}
 use Rattle.layout.specs.Numbers.{number4}
-use Rattle.sheet.specs.Guard.{guard, orElse}
-use Rattle.sheet.specs.Faults.{frameFault, bytesAt, rowFor, placeFault, outside, countFault, sizeFault, lengthFault, startFault, orderFault, endFault, wordFault, wordsFault, intervalFault, kindFault, valueFault, places, innerFault, classFault, recordFault}
-use Rattle.sheet.specs.Walking.{refusal, refused, ending, classStep, recordStep, begin, onStep, stepOf, walkFrom, walkOf}
+use Rattle.records.specs.Guard.{guard, orElse}
+use Rattle.records.specs.Faults.{frameFault, bytesAt, rowFor, placeFault, outside, countFault, sizeFault, lengthFault, startFault, orderFault, endFault, wordFault, wordsFault, intervalFault, kindFault, valueFault, places, innerFault, classFault, recordFault}
+use Rattle.records.specs.Walking.{refusal, refused, ending, classStep, recordStep, begin, onStep, stepOf, walkFrom, walkOf}
 use Rattle.sheet.specs.Reader.{countNumber, formulaCount, noNumber, countAnswer, foundNumber, withheld, readAnswer, formulaRead, Accepted, NotAccepted}
-use Rattle.sheet.specs.declared.walking.Walk.{Walk}
-use Rattle.sheet.specs.declared.walking.Walked.{Walked}
-use Rattle.sheet.specs.declared.walking.Walked.the-variants.{Whole, Broken}
-use Rattle.sheet.specs.declared.walking.Step.{Step}
-use Rattle.sheet.specs.declared.walking.Step.the-variants.{More, Done}
+use Rattle.records.specs.declared.walking.Walk.{Walk}
+use Rattle.records.specs.declared.walking.Walked.{Walked}
+use Rattle.records.specs.declared.walking.Walked.the-variants.{Whole, Broken}
+use Rattle.records.specs.declared.walking.Step.{Step}
+use Rattle.records.specs.declared.walking.Step.the-variants.{More, Done}
 
 -- ---- no fault is above 8
 

@@ -11,15 +11,15 @@ use lib.ListN.{length, length-append}
 use borrow.Author.Tests.{eqb-true, eqb-false, le-ltb}
 use Rattle.layout.specs.declared.table.Class.the-variants.{FormulaRecord}
 use Rattle.layout.specs.Fields.{formulaNumber}
-use Rattle.sheet.specs.Faults.{bytesAt}
-use Rattle.sheet.specs.Walking.{walkOf}
-use Rattle.sheet.specs.Sheets.{FormulaBytes, EachFormula, joined, Has, SheetOf}
+use Rattle.records.specs.Faults.{bytesAt}
+use Rattle.records.specs.Walking.{walkOf}
+use Rattle.records.specs.Sheets.{FormulaBytes, EachFormula, joined, Has, SheetOf}
 use Rattle.sheet.specs.Reader.{formulaAt, reading, foundAnswer, Standing}
 use Rattle.sheet.specs.declared.answers.Found.the-variants.{Given}
-use Rattle.sheet.specs.declared.walking.Walked.the-variants.{Whole}
-use Rattle.sheet.proofs.Records.{frame-there, bytes-there}
-use Rattle.sheet.proofs.WalkToShape.{shape}
-use Rattle.sheet.proofs.ShapeToWalk.{placeIn, walked}
+use Rattle.records.specs.declared.walking.Walked.the-variants.{Whole}
+use Rattle.records.proofs.Records.{frame-there, bytes-there}
+use Rattle.records.proofs.WalkToShape.{shape}
+use Rattle.records.proofs.ShapeToWalk.{placeIn, walked}
 
 -- a record of the number n, at the place k, where the first of them stands at `at`
 pub record At (n at k : ℕ) (fs : List (List ℕ)) : Type 0 where

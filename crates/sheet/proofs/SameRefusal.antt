@@ -9,17 +9,17 @@ use lib.ListN.{length}
 use Rattle.layout.specs.declared.table.Class.{Class}
 use Rattle.layout.specs.declared.table.Class.the-variants.{StartRecord, FormulaRecord, EndRecord, Unknown}
 use Rattle.layout.specs.declared.table.Row.{Row}
-use Rattle.sheet.specs.Guard.{guard}
-use Rattle.sheet.specs.Faults.{frameFault, bytesAt, rowFor, orderFault, endFault, classFault, recordFault}
-use Rattle.sheet.specs.Walking.{walk, refusal, refused, ending, classStep, recordStep, begin, onStep, stepOf, walkFrom, walkOf}
+use Rattle.records.specs.Guard.{guard}
+use Rattle.records.specs.Faults.{frameFault, bytesAt, rowFor, orderFault, endFault, classFault, recordFault}
+use Rattle.records.specs.Walking.{walk, refusal, refused, ending, classStep, recordStep, begin, onStep, stepOf, walkFrom, walkOf}
 use Rattle.sheet.specs.Reader.{countAnswer, noNumber, formulaCount, withheld, readAnswer, formulaRead}
-use Rattle.sheet.specs.declared.answers.Refusal.{Refusal}
+use Rattle.records.specs.declared.refusal.Refusal.{Refusal}
 use Rattle.sheet.specs.declared.answers.FormulaCount.the-variants.{Refused}
-use Rattle.sheet.specs.declared.walking.Walk.{Walk}
-use Rattle.sheet.specs.declared.walking.Walked.{Walked}
-use Rattle.sheet.specs.declared.walking.Walked.the-variants.{Whole, Broken}
-use Rattle.sheet.specs.declared.walking.Step.{Step}
-use Rattle.sheet.specs.declared.walking.Step.the-variants.{More, Done}
+use Rattle.records.specs.declared.walking.Walk.{Walk}
+use Rattle.records.specs.declared.walking.Walked.{Walked}
+use Rattle.records.specs.declared.walking.Walked.the-variants.{Whole, Broken}
+use Rattle.records.specs.declared.walking.Step.{Step}
+use Rattle.records.specs.declared.walking.Step.the-variants.{More, Done}
 
 -- a walk that asks for nothing
 abbrev plain : Walk → Walk

@@ -13,10 +13,10 @@ use Rattle.layout.specs.declared.table.Class.the-variants.{EndRecord}
 use Rattle.layout.specs.Numbers.{number2}
 use Rattle.layout.specs.Fields.{codeOf, shapeOf}
 use Rattle.layout.proofs.Rule.{end-length}
-use Rattle.sheet.specs.Faults.{rowFor}
-use Rattle.sheet.specs.Sheets.{RecordOf, joined}
+use Rattle.records.specs.Faults.{rowFor}
+use Rattle.records.specs.Sheets.{RecordOf, joined}
 use Rattle.sheet.specs.Reader.{Accepted, NotAccepted}
-use Rattle.sheet.proofs.Lengths.{laid}
+use Rattle.records.proofs.Lengths.{laid}
 use Rattle.sheet.proofs.OneToNine.{one-to-nine}
 use Rattle.sheet.proofs.AcceptedShape.{accepted-shape}
 

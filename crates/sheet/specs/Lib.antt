@@ -1,6 +1,2 @@
--- Refusal numbers and their order, what a sheet is, and what the reader answers.
-pub mod Guard
-pub mod Faults
-pub mod Walking
-pub mod Sheets
+-- What the reader answers.
 pub mod Reader

@@ -9,17 +9,17 @@ use Rattle.formula.specs.declared.Formula.{Formula}
 use Rattle.layout.specs.Numbers.{number2, number4}
 use Rattle.layout.specs.Table.{rows, firstRow, rowOf}
 use Rattle.layout.specs.Fields.{firstCount, fieldOf, shape, shapeOf, wordsBy, padded, formula, formulaOf}
-use Rattle.sheet.specs.Faults.{frameFault, bytesAt, rowFor, outside, countFault, sizeFault, lengthFault, startFault, recordFault}
-use Rattle.sheet.specs.Walking.{refusal, recordStep, stepOf, walkFrom, walkOf}
-use Rattle.sheet.specs.Sheets.{FormulaBytes}
-use Rattle.sheet.specs.declared.answers.Refusal.{Refusal}
+use Rattle.records.specs.Faults.{frameFault, bytesAt, rowFor, outside, countFault, sizeFault, lengthFault, startFault, recordFault}
+use Rattle.records.specs.Walking.{refusal, recordStep, stepOf, walkFrom, walkOf}
+use Rattle.records.specs.Sheets.{FormulaBytes}
+use Rattle.records.specs.declared.refusal.Refusal.{Refusal}
 use Rattle.sheet.specs.declared.answers.FormulaCount.{FormulaCount}
 use Rattle.sheet.specs.declared.answers.FormulaCount.the-variants.{Count, Refused}
 use Rattle.sheet.specs.declared.answers.Found.{Found}
 use Rattle.sheet.specs.declared.answers.Found.the-variants.{Given, Refused as Withheld}
 use Rattle.sheet.specs.declared.answers.Reading.{Reading}
-use Rattle.sheet.specs.declared.walking.Walked.{Walked}
-use Rattle.sheet.specs.declared.walking.Walked.the-variants.{Whole, Broken}
+use Rattle.records.specs.declared.walking.Walked.{Walked}
+use Rattle.records.specs.declared.walking.Walked.the-variants.{Whole, Broken}
 
 -- ---- the paper's number, place and value of each case; 0 where there is no refusal
 abbrev pub countNumber : FormulaCount → ℕ

@@ -1,11 +1,6 @@
 // What the reader answers.
 use formula::Formula;
-
-// The paper's number of a refusal, and the place of the byte that it names.
-pub struct Refusal {
-    pub number: u8,
-    pub place: usize,
-}
+use records::refusal::Refusal;
 
 pub enum FormulaCount {
     Count(u16),

@@ -1,21 +1,21 @@
 // The reader: a sheet's formula count, and the whole decoded formula of a number. One pass over the sheet each.
 ghost use mathlib.Core.Path.{_≡_};
-ghost use Rattle.sheet.specs.Faults.{rowFor};
-ghost use Rattle.sheet.specs.Sheets.{FormulaBytes};
+ghost use Rattle.records.specs.Faults.{rowFor};
+ghost use Rattle.records.specs.Sheets.{FormulaBytes};
 ghost use Rattle.sheet.specs.Reader.{formulaCount, noFormula, withheld, formulaAt, formulaRead, Standing};
 ghost use Rattle.layout.specs.Fields.{formulaOf};
 use crate::answers::FormulaCount;
 use crate::answers::Found;
 use crate::answers::Reading;
-use crate::answers::Refusal;
-use crate::walking;
-use crate::walking::Walked;
 use formula::Formula;
 use formula::Kind;
 use formula::Shape;
 use layout::fields;
 use layout::numbers;
 use layout::table;
+use records::refusal::Refusal;
+use records::walking;
+use records::walking::Walked;
 
 // Above every number: none is asked for.
 const NO_NUMBER: u32 = 65536;

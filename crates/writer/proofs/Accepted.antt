@@ -16,11 +16,11 @@ use Rattle.layout.specs.Table.{rowOf}
 use Rattle.layout.specs.Fields.{wordsBy, padded}
 use Rattle.layout.proofs.Rule.{few}
 use Rattle.layout.proofs.Padded.{length-padded, take-padded}
-use Rattle.sheet.specs.Guard.{guard}
-use Rattle.sheet.specs.Faults.{outside, intervalFault, valueFault, countFault, innerFault}
-use Rattle.sheet.proofs.Chain.{neither}
-use Rattle.sheet.proofs.Lengths.{inside}
-use Rattle.sheet.proofs.Soundness.{sound}
+use Rattle.records.specs.Guard.{guard}
+use Rattle.records.specs.Faults.{outside, intervalFault, valueFault, countFault, innerFault}
+use Rattle.records.proofs.Chain.{neither}
+use Rattle.records.proofs.Lengths.{inside}
+use Rattle.records.proofs.Soundness.{sound}
 use Rattle.writer.specs.Answers.{writingNumber, refusedBy}
 use Rattle.writer.specs.Kinds.{codeFor, onlyFormula, rowBy, plainBy, plain}
 use Rattle.writer.specs.Bytes.{Ready}

@@ -12,14 +12,14 @@ use lib.ListN.{length}
 use borrow.Author.Tests.{eqb-false}
 use Rattle.formula.specs.declared.Formula.{Formula}
 use Rattle.layout.specs.Fields.{formulaNumber, formulaOf}
-use Rattle.sheet.specs.Faults.{bytesAt, rowFor}
-use Rattle.sheet.specs.Sheets.{FormulaBytes, EachFormula, Rising, joined, Has, SheetOf}
-use Rattle.sheet.specs.Walking.{walkOf}
+use Rattle.records.specs.Faults.{bytesAt, rowFor}
+use Rattle.records.specs.Sheets.{FormulaBytes, EachFormula, Rising, joined, Has, SheetOf}
+use Rattle.records.specs.Walking.{walkOf}
 use Rattle.sheet.specs.Reader.{formulaCount, noNumber, countAnswer, reading, readAnswer, formulaRead}
 use Rattle.sheet.specs.declared.answers.FormulaCount.{FormulaCount}
 use Rattle.sheet.specs.declared.answers.FormulaCount.the-variants.{Count, Refused}
 use Rattle.sheet.specs.declared.answers.Found.the-variants.{Given}
-use Rattle.sheet.proofs.ShapeToWalk.{placeIn}
+use Rattle.records.proofs.ShapeToWalk.{placeIn}
 use Rattle.sheet.proofs.Places.{At, noted, stands, given}
 use Rattle.sheet.proofs.AcceptedShape.{walk-of}
 use Rattle.writer.specs.Answers.{writingNumber, refusedBy}

@@ -20,8 +20,8 @@ use Rattle.layout.specs.Table.{rowOf}
 use Rattle.layout.specs.Fields.{shape, formula, formulaNumber, loOf, hiOf, wordsOf, firstCount, fieldOf, shapeOf, wordsBy, lengthBy, words, padded, formulaOf}
 use Rattle.layout.proofs.NumberLaws.{number2-at, number4-at, word4-at}
 use Rattle.writer.proofs.Stores.{length-bytes2, length-bytes4}
-use Rattle.sheet.specs.Faults.{rowFor, countFault, sizeFault, lengthFault, innerFault}
-use Rattle.sheet.specs.Sheets.{FormulaBytes}
+use Rattle.records.specs.Faults.{rowFor, countFault, sizeFault, lengthFault, innerFault}
+use Rattle.records.specs.Sheets.{FormulaBytes}
 use Rattle.writer.specs.Bytes.{headBytes, fieldBytes, fieldsBytes, wordBytes, recordBytes, size, Stands, Ready}
 use Rattle.writer.proofs.KindLaws.{Told}
 use Rattle.writer.proofs.RecordLaws.{length-head, length-field, length-fields, length-words, length-record}

@@ -8,9 +8,9 @@ use Rattle.formula.specs.declared.Formula.{Formula}
 use Rattle.layout.specs.declared.table.Row.{Row}
 use Rattle.layout.specs.Fields.{lengthBy}
 use Rattle.layout.proofs.Rule.{ruled}
-use Rattle.sheet.specs.Faults.{innerFault}
-use Rattle.sheet.proofs.Chain.{passed, neither}
-use Rattle.sheet.proofs.Lengths.{counted}
+use Rattle.records.specs.Faults.{innerFault}
+use Rattle.records.proofs.Chain.{passed, neither}
+use Rattle.records.proofs.Lengths.{counted}
 use Rattle.writer.specs.Kinds.{codeFor, onlyFormula, plainShape, plainBy, rowBy}
 use Rattle.writer.specs.Bytes.{Ready}
 use Rattle.writer.specs.RecordWriter.{kindAndCounts, valuesAndRoom}

@@ -8,15 +8,15 @@ use borrow.Author.Tests.{lt-ltb, le-ltb}
 use Rattle.layout.specs.declared.table.Class.{Class}
 use Rattle.layout.specs.declared.table.Class.the-variants.{FormulaRecord}
 use Rattle.layout.specs.Fields.{formulaNumber, formulaOf}
-use Rattle.sheet.specs.Guard.{guard}
-use Rattle.sheet.specs.Faults.{frameFault, rowFor, lengthFault, orderFault, innerFault, classFault}
-use Rattle.sheet.specs.Walking.{refusal, afterFormula}
-use Rattle.sheet.specs.declared.walking.Walk.{Walk}
+use Rattle.records.specs.Guard.{guard}
+use Rattle.records.specs.Faults.{frameFault, rowFor, lengthFault, orderFault, innerFault, classFault}
+use Rattle.records.specs.Walking.{refusal, afterFormula}
+use Rattle.records.specs.declared.walking.Walk.{Walk}
 use Rattle.sheet.specs.declared.answers.FormulaCount.{FormulaCount}
 use Rattle.sheet.specs.declared.answers.FormulaCount.the-variants.{Count, Refused}
-use Rattle.sheet.proofs.Chain.{halts, goes, neither}
-use Rattle.sheet.proofs.Steps.{framed, length-bytesAt, clear}
-use Rattle.sheet.proofs.Going.{ordered}
+use Rattle.records.proofs.Chain.{halts, goes, neither}
+use Rattle.records.proofs.Steps.{framed, length-bytesAt, clear}
+use Rattle.records.proofs.Going.{ordered}
 use Rattle.writer.specs.Kinds.{onlyFormula}
 use Rattle.writer.specs.Runs.{beginRun, inRun, runRecord, runRecordFault, runFault, runFrom, runCount, Going}
 use Rattle.writer.proofs.KindLaws.{formula-only}

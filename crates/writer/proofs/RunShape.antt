@@ -11,15 +11,15 @@ use borrow.Author.Tests.{eq-eqb, ne-eqb, lt-ltb, le-ltb, eqb-true, ltb-false}
 use Rattle.layout.specs.declared.table.Class.{Class}
 use Rattle.layout.specs.declared.table.Class.the-variants.{FormulaRecord}
 use Rattle.layout.specs.Fields.{formulaNumber}
-use Rattle.sheet.specs.Guard.{guard, orElse}
-use Rattle.sheet.specs.Faults.{frameFault, rowFor, placeFault, orderFault, classFault, recordFault}
-use Rattle.sheet.specs.Walking.{refusal, afterFormula}
-use Rattle.sheet.specs.Sheets.{FormulaBytes, EachFormula, Rising, joined}
-use Rattle.sheet.specs.declared.walking.Walk.{Walk}
+use Rattle.records.specs.Guard.{guard, orElse}
+use Rattle.records.specs.Faults.{frameFault, rowFor, placeFault, orderFault, classFault, recordFault}
+use Rattle.records.specs.Walking.{refusal, afterFormula}
+use Rattle.records.specs.Sheets.{FormulaBytes, EachFormula, Rising, joined}
+use Rattle.records.specs.declared.walking.Walk.{Walk}
 use Rattle.sheet.specs.declared.answers.FormulaCount.the-variants.{Count, Refused}
-use Rattle.sheet.proofs.Chain.{pass}
-use Rattle.sheet.proofs.Going.{ordered}
-use Rattle.sheet.proofs.Records.{record-at, split-at, frame-there, bytes-there}
+use Rattle.records.proofs.Chain.{pass}
+use Rattle.records.proofs.Going.{ordered}
+use Rattle.records.proofs.Records.{record-at, split-at, frame-there, bytes-there}
 use Rattle.writer.specs.Kinds.{onlyFormula}
 use Rattle.writer.specs.Runs.{beginRun, inRun, runRecord, runRecordFault, runFault, runFrom, runCount, Going}
 use Rattle.writer.proofs.RunLaws.{Faultless, faultless, moves, begins}

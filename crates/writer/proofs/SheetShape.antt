@@ -11,8 +11,8 @@ use Rattle.layout.specs.Table.{rows, firstRow, rowOf}
 use Rattle.layout.specs.Fields.{countOf, firstCount, fieldOf, shapeOf, wordsBy}
 use Rattle.layout.proofs.NumberLaws.{number2-at}
 use Rattle.writer.proofs.Stores.{length-bytes2, length-bytes4}
-use Rattle.sheet.specs.Faults.{outside, countFault, sizeFault, lengthFault}
-use Rattle.sheet.specs.Sheets.{RecordOf, EachFormula, Rising, joined, SheetOf}
+use Rattle.records.specs.Faults.{outside, countFault, sizeFault, lengthFault}
+use Rattle.records.specs.Sheets.{RecordOf, EachFormula, Rising, joined, SheetOf}
 use Rattle.writer.specs.SheetWriter.{boundBytes, sheetBytes, sheetWriting}
 use Rattle.writer.specs.declared.answers.Writing.the-variants.{Written}
 use Rattle.writer.proofs.RunShape.{RunOf, shape-run}

@@ -19,15 +19,15 @@ use Rattle.layout.specs.Table.{rowOf}
 use Rattle.layout.specs.Fields.{codeOf, countOf, formulaNumber, loOf, hiOf, shape, formula, firstCount, fieldOf, shapeOf, wordsBy, lengthBy, wordsOf, padded, formulaOf}
 use Rattle.writer.proofs.Stores.{Bytes}
 use Rattle.layout.proofs.Padded.{length-words, take-padded}
-use Rattle.sheet.specs.Faults.{rowFor, outside, countFault, sizeFault, lengthFault, intervalFault, valueFault, innerFault}
-use Rattle.sheet.specs.Sheets.{RecordOf, FormulaBytes, EachFormula, joined, Has, SheetOf}
+use Rattle.records.specs.Faults.{rowFor, outside, countFault, sizeFault, lengthFault, intervalFault, valueFault, innerFault}
+use Rattle.records.specs.Sheets.{RecordOf, FormulaBytes, EachFormula, joined, Has, SheetOf}
 use Rattle.sheet.specs.Reader.{countValue, formulaCount, Accepted, Answered, formulaRead}
 use Rattle.sheet.specs.declared.answers.Reading.{Reading}
 use Rattle.sheet.specs.declared.answers.FormulaCount.the-variants.{Count}
 use Rattle.sheet.proofs.AcceptedShape.{accepted-shape}
 use Rattle.sheet.proofs.FormulasGiven.{found-exactly}
-use Rattle.sheet.proofs.Chain.{goes, passed, neither}
-use Rattle.sheet.proofs.Lengths.{inside, laid}
+use Rattle.records.proofs.Chain.{goes, passed, neither}
+use Rattle.records.proofs.Lengths.{inside, laid}
 use Rattle.writer.specs.Answers.{refusedBy}
 use Rattle.writer.specs.Kinds.{onlyFormula, kept, plainShape, plainBy, plain, rowBy}
 use Rattle.writer.specs.Bytes.{headBytes, fieldBytes, fieldsBytes, recordBytes, size}

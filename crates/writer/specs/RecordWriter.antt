@@ -11,8 +11,8 @@ use Rattle.layout.specs.declared.table.Row.{Row}
 use Rattle.layout.specs.Numbers.{bytes2, bytes4}
 use Rattle.layout.specs.Table.{rows, firstRow, rowOf}
 use Rattle.layout.specs.Fields.{shape, formula, wordsBy, lengthBy, padded}
-use Rattle.sheet.specs.Guard.{guard, orElse}
-use Rattle.sheet.specs.Faults.{outside, countFault, intervalFault, wordsFault, valueFault, innerFault}
+use Rattle.records.specs.Guard.{guard, orElse}
+use Rattle.records.specs.Faults.{outside, countFault, intervalFault, wordsFault, valueFault, innerFault}
 use Rattle.writer.specs.Answers.{refusedBy}
 use Rattle.writer.specs.Kinds.{onlyFormula, kept, plainShape, plainBy, rowBy, plain}
 use Rattle.writer.specs.Bytes.{headBytes, fieldBytes, fieldsBytes, wordBytes, recordBytes}

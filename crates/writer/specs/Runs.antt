@@ -5,11 +5,11 @@ use mathlib.Core.List.{List}
 use mathlib.Core.Bool.{cond}
 use lib.Dec.{ltb}
 use lib.ListN.{length}
-use Rattle.sheet.specs.Guard.{guard, orElse}
-use Rattle.sheet.specs.Faults.{frameFault, bytesAt, rowFor, recordFault}
-use Rattle.sheet.specs.Walking.{walk, refusal, afterFormula}
+use Rattle.records.specs.Guard.{guard, orElse}
+use Rattle.records.specs.Faults.{frameFault, bytesAt, rowFor, recordFault}
+use Rattle.records.specs.Walking.{walk, refusal, afterFormula}
 use Rattle.sheet.specs.Reader.{noNumber}
-use Rattle.sheet.specs.declared.walking.Walk.{Walk}
+use Rattle.records.specs.declared.walking.Walk.{Walk}
 use Rattle.sheet.specs.declared.answers.FormulaCount.{FormulaCount}
 use Rattle.sheet.specs.declared.answers.FormulaCount.the-variants.{Count, Refused}
 use Rattle.writer.specs.Kinds.{onlyFormula}

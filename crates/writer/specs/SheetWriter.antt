@@ -8,8 +8,8 @@ use lib.ListN.{length}
 use Rattle.layout.specs.Numbers.{number2, number4, bytes2, bytes4}
 use Rattle.layout.specs.Table.{rows, firstRow, rowOf}
 use Rattle.layout.specs.Fields.{firstCount, fieldOf, shapeOf, wordsBy, words, padded, formulaOf}
-use Rattle.sheet.specs.Faults.{frameFault, bytesAt, outside, countFault, sizeFault, lengthFault, orderFault, intervalFault, wordsFault, valueFault, innerFault, recordFault}
-use Rattle.sheet.specs.Walking.{refusal}
+use Rattle.records.specs.Faults.{frameFault, bytesAt, outside, countFault, sizeFault, lengthFault, orderFault, intervalFault, wordsFault, valueFault, innerFault, recordFault}
+use Rattle.records.specs.Walking.{refusal}
 use Rattle.sheet.specs.declared.answers.FormulaCount.{FormulaCount}
 use Rattle.sheet.specs.declared.answers.FormulaCount.the-variants.{Count, Refused as Broken}
 use Rattle.sheet.specs.Reader.{countValue}

@@ -1,7 +1,7 @@
 // The record writer: 3; 2; 6; 7 or 8; then 12, all at place 0. Only then does it touch the buffer.
 ghost use mathlib.Core.Path.{_≡_};
 ghost use lib.ListN.{length};
-ghost use Rattle.sheet.specs.Faults.{innerFault};
+ghost use Rattle.records.specs.Faults.{innerFault};
 ghost use Rattle.writer.specs.Answers.{bufferAfter};
 ghost use Rattle.writer.specs.Bytes.{Ready};
 ghost use Rattle.writer.specs.RecordWriter.{kindAndCounts, valuesAndRoom, recordWriting, bytesOf};
@@ -13,7 +13,7 @@ use formula::Formula;
 use layout::fields;
 use layout::table;
 use layout::table::Row;
-use sheet::faults;
+use records::faults;
 
 fn kind_and_counts(row: Row, p: u16, q: u16) -> u8
     ensures { λ r. ⌜ r ≡ kindAndCounts row p q ⌝ }

@@ -2,16 +2,16 @@
 ghost use mathlib.Core.Path.{_≡_};
 ghost use Prim.Native.Nat.{_≤_};
 ghost use lib.ListN.{length};
-ghost use Rattle.sheet.specs.Walking.{afterFormula};
+ghost use Rattle.records.specs.Walking.{afterFormula};
 ghost use Rattle.writer.specs.Runs.{runRecord, runRecordFault, runFault, runCount, Going};
 use crate::kinds;
 use layout::numbers;
 use layout::table;
+use records::faults;
+use records::refusal::Refusal;
+use records::walking;
+use records::walking::Walk;
 use sheet::answers::FormulaCount;
-use sheet::answers::Refusal;
-use sheet::faults;
-use sheet::walking;
-use sheet::walking::Walk;
 
 // Above every number: none is asked for.
 const NO_NUMBER: u32 = 65536;

@@ -7,7 +7,7 @@ use mir.Syntax.{w32}
 use Rattle.whole.proofs.Fit.{fit-abs}
 use Rattle.whole.proofs.Held.{Held, held, arg, given, tested-lt, tested-ge}
 use Rattle.formula.specs.Formula.{answerOf, Answerable}
-use Rattle.sheet.specs.Faults.{places}
+use Rattle.records.specs.Faults.{places}
 use Rattle.board.specs.Board.{answered}
 use Rattle.board.proofs.IntervalLaws.{below-low, above-high, inside, answerable}
 use Rattle.board.proofs.answer_at.Statement.{statement}

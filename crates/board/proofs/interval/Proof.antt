@@ -6,7 +6,7 @@ use mir.Syntax.{w32}
 use mir.Val.{SFits}
 use Rattle.whole.proofs.Held.{held, arg}
 use Rattle.door.specs.Exact.{Exactly}
-use Rattle.sheet.specs.Faults.{places}
+use Rattle.records.specs.Faults.{places}
 use Rattle.sheet.specs.declared.answers.Found.{Found}
 use Rattle.sheet.specs.declared.answers.Reading.{Reading}
 use Rattle.board.specs.Board.{IntervalBy, IntervalAs}

@@ -1,7 +1,7 @@
 use borrow.Author.Needs.{needs}
 use native.Mathlib.Omega.{arith}
 use denote.Ref.{now}
-use Rattle.sheet.proofs.Steps.{Framed, framed, part-is}
+use Rattle.records.proofs.Steps.{Framed, framed, part-is}
 use Rattle.sheet.proofs.reader.formula_at.Statement.{statement}
 use Rattle.sheet.proofs.reader.formula_at.Tie as tie
 

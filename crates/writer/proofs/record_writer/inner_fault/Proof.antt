@@ -5,9 +5,9 @@ use lib.ListN.{length}
 use mir.Syntax.{w32}
 use mir.Val.{SFits}
 use mir.Facts.{toZ-ofZ}
-use Rattle.sheet.specs.Faults.{valueFault, innerFault}
-use Rattle.sheet.proofs.Chain.{stop, pass}
-use Rattle.sheet.proofs.Soundness.{sound}
+use Rattle.records.specs.Faults.{valueFault, innerFault}
+use Rattle.records.proofs.Chain.{stop, pass}
+use Rattle.records.proofs.Soundness.{sound}
 use Rattle.writer.proofs.record_writer.inner_fault.Statement.{statement}
 use Rattle.writer.proofs.record_writer.inner_fault.Tie as tie
 

@@ -1,5 +1,5 @@
 use borrow.Author.Needs.{needs}
-use Rattle.sheet.proofs.Chain.{stop, pass}
+use Rattle.records.proofs.Chain.{stop, pass}
 use Rattle.writer.specs.RecordWriter.{kindAndCounts}
 use Rattle.writer.proofs.record_writer.kind_and_counts.Statement.{statement}
 use Rattle.writer.proofs.record_writer.kind_and_counts.Tie as tie

@@ -1,6 +1,6 @@
 use borrow.Author.Needs.{needs}
 use borrow.Author.Tests.{lt-ltb, le-ltb}
-use Rattle.sheet.proofs.Chain.{stop, pass}
+use Rattle.records.proofs.Chain.{stop, pass}
 use Rattle.writer.specs.RecordWriter.{valuesAndRoom}
 use Rattle.writer.proofs.record_writer.values_and_room.Statement.{statement}
 use Rattle.writer.proofs.record_writer.values_and_room.Tie as tie

@@ -5,7 +5,7 @@ use lib.ListN.{length}
 use denote.Ref.{now}
 use Rattle.layout.specs.Fields.{lengthBy}
 use Rattle.writer.proofs.Stores.{sets-front}
-use Rattle.sheet.proofs.Chain.{halts, goes}
+use Rattle.records.proofs.Chain.{halts, goes}
 use Rattle.writer.specs.Answers.{refusedBy}
 use Rattle.writer.specs.Kinds.{plainShape, plainBy, plain, rowBy}
 use Rattle.writer.specs.Bytes.{Ready}

@@ -3,7 +3,7 @@ use mathlib.Core.Path.{ap}
 use native.Mathlib.Omega.{arith}
 use denote.Ref.{now}
 use lib.ListN.{length}
-use Rattle.sheet.proofs.Steps.{Framed, framed, part-is}
+use Rattle.records.proofs.Steps.{Framed, framed, part-is}
 use Rattle.writer.specs.Runs.{inRun}
 use Rattle.writer.proofs.RunLaws.{Faultless, faultless, moves}
 use Rattle.writer.proofs.runs.after_record.Statement.{statement}

@@ -2,8 +2,8 @@ use borrow.Author.Needs.{needs}
 use mathlib.Core.Path.{_≡_}
 use denote.Ref.{now}
 use Rattle.layout.proofs.Rule.{ruled}
-use Rattle.sheet.specs.Faults.{rowFor}
-use Rattle.sheet.proofs.Chain.{stop, pass}
+use Rattle.records.specs.Faults.{rowFor}
+use Rattle.records.proofs.Chain.{stop, pass}
 use Rattle.writer.specs.Runs.{runRecordFault}
 use Rattle.writer.proofs.runs.record_fault.Statement.{statement}
 use Rattle.writer.proofs.runs.record_fault.Tie as tie

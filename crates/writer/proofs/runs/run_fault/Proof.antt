@@ -3,8 +3,8 @@ use mathlib.Core.Path.{_∙_, sym, ap}
 use native.Mathlib.Omega.{arith}
 use denote.Ref.{now}
 use lib.ListN.{length}
-use Rattle.sheet.proofs.Chain.{stop, pass}
-use Rattle.sheet.proofs.Steps.{Framed, framed, part-is, length-bytesAt}
+use Rattle.records.proofs.Chain.{stop, pass}
+use Rattle.records.proofs.Steps.{Framed, framed, part-is, length-bytesAt}
 use Rattle.writer.specs.Runs.{inRun, runFault}
 use Rattle.writer.proofs.runs.run_fault.Statement.{statement}
 use Rattle.writer.proofs.runs.run_fault.Tie as tie

@@ -1,0 +1,54 @@
+-- What a sheet is: one start, exactly count formula records with strictly rising numbers, one end with the same count,
+-- and nothing more. Said of the bytes, without the walk.
+use Prim.Native.Nat.{ℕ, _+_, _≤_}
+use mathlib.Core.Path.{_≡_}
+use mathlib.Core.List.{List, [], _∷_, _++_}
+use mathlib.Core.Logic.{_⊎_}
+use lib.ListN.{length}
+use Rattle.layout.specs.declared.table.Class.{Class}
+use Rattle.layout.specs.declared.table.Class.the-variants.{StartRecord, FormulaRecord, EndRecord}
+use Rattle.layout.specs.Numbers.{number4}
+use Rattle.layout.specs.Fields.{countOf, formulaNumber, formulaOf}
+use Rattle.records.specs.Faults.{rowFor, lengthFault, innerFault}
+
+-- the bytes of one record of a class, as long as they say and as their kind and counts ask for
+pub record RecordOf (k : Class) (b : List ℕ) : Type 0 where
+  pub least : 8 ≤ length b
+  pub most : length b ≤ 120
+  pub says : number4 b 0 ≡ length b
+  pub class : rowFor b .class ≡ k
+  pub exact : lengthFault (rowFor b) b ≡ 0
+
+-- a formula record without 6, 7 and 8
+pub record FormulaBytes (b : List ℕ) : Type 0 where
+  pub one : RecordOf FormulaRecord b
+  pub inner : innerFault (rowFor b) (formulaOf (rowFor b) b) ≡ 0
+
+abbrev pub EachFormula : List (List ℕ) → Type 0
+EachFormula [] = Unit
+EachFormula (b ∷ bs) = FormulaBytes b × EachFormula bs
+
+-- each number above the one before, and the first not below n
+abbrev pub Rising : ℕ → List (List ℕ) → Type 0
+Rising n [] = Unit
+Rising n (b ∷ bs) = (n ≤ formulaNumber b) × Rising (formulaNumber b + 1) bs
+
+abbrev pub joined : List (List ℕ) → List ℕ
+joined [] = []
+joined (b ∷ bs) = b ++ joined bs
+
+-- one of the records has the number n
+abbrev pub Has : ℕ → List (List ℕ) → Type 0
+Has n [] = ⊥
+Has n (b ∷ bs) = (formulaNumber b ≡ n) ⊎ Has n bs
+
+pub record SheetOf (c : ℕ) (s : List ℕ) : Type 0 where
+  pub start : List ℕ
+  pub formulas : List (List ℕ)
+  pub finish : List ℕ
+  pub whole : s ≡ start ++ (joined formulas ++ finish)
+  pub opens : RecordOf StartRecord start × (countOf start ≡ c) × (1 ≤ c) × (c ≤ 64)
+  pub many : length formulas ≡ c
+  pub each : EachFormula formulas
+  pub rising : Rising 0 formulas
+  pub closes : RecordOf EndRecord finish × (countOf finish ≡ c)
