@@ -1,26 +1,24 @@
--- From what the reader gives to what the board answers.
-use mathlib.Core.Path.{_≡_, sym, ap, ap₂, _∙_, subst}
+-- From the place that the reader answers to what the board answers.
+use mathlib.Core.Path.{_≡_, sym, ap}
 use mathlib.Core.List.{List}
 use Prim.Native.Nat.{ℕ}
-use Rattle.sheet.specs.Reader.{foundNumber, formulaRead}
-use Rattle.sheet.specs.declared.answers.Found.{Found}
-use Rattle.sheet.specs.declared.answers.Found.the-variants.{Given, Refused as Withheld}
-use Rattle.sheet.specs.declared.answers.Reading.{Reading}
+use Rattle.sheet.specs.Reader.{formulaPlace, formulaAt, readAt, formulaRead}
+use Rattle.sheet.specs.declared.answers.Place.{Place}
+use Rattle.sheet.specs.declared.answers.Place.the-variants.{At, Refused as Absent}
 use Rattle.records.specs.declared.refusal.Refusal.{Refusal}
 use Rattle.formula.specs.declared.Formula.{Formula}
-use Rattle.sheet.proofs.FormulasGiven.{Fit, given-fits}
 use Rattle.board.specs.Board.{whenGiven}
 use Rattle.board.specs.declared.answers.Evaluation.{Evaluation}
 use Rattle.board.specs.declared.answers.Evaluation.the-variants.{Refused}
 
--- r is what the reader gave
-module _ (s : List ℕ) (n : ℕ) (r : Reading) (e : r ≡ formulaRead s n) where
-  module _ (g : r .found ≡ Given) where
-    pub fits-given : Fit (r .formula)
-    fits-given = subst (λ (q : Reading). Fit (q .formula)) (sym e) (given-fits s n (ap (λ (q : Reading). foundNumber (q .found)) (sym e) ∙ ap foundNumber g) .0)
+module _ (s : List ℕ) (n : ℕ) (answer : Formula → Evaluation) where
+  by-place : (p q : Place) → p ≡ q → whenGiven (readAt s p .found) (answer (readAt s p .formula)) ≡ whenGiven (readAt s q .found) (answer (readAt s q .formula))
+  by-place p q e = ap (λ (r : Place). whenGiven (readAt s r .found) (answer (readAt s r .formula))) e
 
-    pub when-given : (answer : Formula → Evaluation) → answer (r .formula) ≡ whenGiven (formulaRead s n .found) (answer (formulaRead s n .formula))
-    when-given answer = ap₂ (λ (a : Found) (q : Reading). whenGiven a (answer (q .formula))) (sym g ∙ ap (λ (q : Reading). q .found) e) e
+  pub when-at : (k : ℕ) → formulaPlace s n ≡ At k → answer (formulaAt s k) ≡ whenGiven (formulaRead s n .found) (answer (formulaRead s n .formula))
+  unfolding formulaRead
+  when-at k e = by-place (At k) (formulaPlace s n) (sym e)
 
-  pub when-refused : (q : Refusal) (answer : Formula → Evaluation) → r .found ≡ Withheld q → Refused q ≡ whenGiven (formulaRead s n .found) (answer (formulaRead s n .formula))
-  when-refused q answer g = ap (λ (a : Found). whenGiven a (answer (formulaRead s n .formula))) (sym g ∙ ap (λ (p : Reading). p .found) e)
+  pub when-refused : (q : Refusal) → formulaPlace s n ≡ Absent q → Refused q ≡ whenGiven (formulaRead s n .found) (answer (formulaRead s n .formula))
+  unfolding formulaRead
+  when-refused q e = by-place (Absent q) (formulaPlace s n) (sym e)

@@ -1,6 +1,10 @@
 // The board: a whole sheet, a number and an argument in; an answer or a numbered refusal out.
 ghost use mathlib.Core.Path.{_≡_};
-ghost use Rattle.sheet.specs.Reader.{formulaRead};
+ghost use Rattle.layout.specs.Rule.{Held};
+ghost use Rattle.layout.specs.Fields.{formulaOf};
+ghost use Rattle.records.specs.Faults.{rowFor};
+ghost use Rattle.records.specs.Sheets.{FormulaBytes};
+ghost use Rattle.sheet.specs.Reader.{formulaRead, formulaAt, Standing};
 ghost use Rattle.sheet.proofs.FormulasGiven.{Fit};
 ghost use Rattle.board.specs.Board.{refused, answerAt, takenAt, evaluated, evaluatedDouble, ShownAs, IntervalAs};
 
@@ -11,9 +15,13 @@ use answers::Interval;
 use answers::Shown;
 use answers::Worked;
 use door::answer::Taken;
-use formula::Formula;
+use layout::fields;
+use layout::numbers;
+use layout::table;
+use layout::table::Row;
 use records::refusal::Refusal;
 use sheet::answers::Found;
+use sheet::answers::Place;
 use sheet::reader;
 
 // Binary places of every word.
@@ -25,42 +33,56 @@ fn refused(number: u8) -> Evaluation
     Evaluation::Refused(Refusal { number, place: 0 })
 }
 
-// The formula's answer where x lies in its interval, both ends inside.
-fn answer_at(f: Formula, x: i32) -> Evaluation
-    requires { ⌜ Fit f ⌝ }
-    ensures { λ r. ⌜ r ≡ answerAt f x ⌝ }
+// The formula's answer where x lies in its interval, both ends inside. The fields are read where they stand.
+fn answer_by(b: &[u8], row: Row, x: i32) -> Evaluation
+    requires { ⌜ Held row (now b) × Fit (formulaOf row (now b)) ⌝ }
+    ensures { λ r. ⌜ r ≡ answerAt (formulaOf row (now (b .entry))) x ⌝ }
 {
-    if x < f.lo {
+    if x < numbers::get_word(b, 8) {
         return refused(10);
     }
-    if f.hi < x {
+    if numbers::get_word(b, 12) < x {
         return refused(10);
     }
-    let shape = f.shape;
-    let words = f.words;
+    let shape = fields::shape_of(b, row);
+    let mut words = [0i32; 32];
+    fields::stored_words(b, row, &mut words);
     let word = formula::answer(shape, &words, x, PLACES);
     Evaluation::Answered(Worked { word })
+}
+
+fn answer_of(b: &[u8], x: i32) -> Evaluation
+    requires { ⌜ FormulaBytes (now b) ⌝ }
+    ensures { λ r. ⌜ r ≡ answerAt (formulaOf (rowFor (now (b .entry))) (now (b .entry))) x ⌝ }
+{
+    answer_by(b, table::row_of(numbers::get2(b, 4)), x)
+}
+
+fn answer_at(s: &[u8], place: usize, x: i32) -> Evaluation
+    requires { ⌜ Standing (now s) place ⌝ }
+    ensures { λ r. ⌜ r ≡ answerAt (formulaAt (now (s .entry)) place) x ⌝ }
+{
+    let n = numbers::get4(s, place) as usize;
+    let e = place + n;
+    answer_of(&s[place..e], x)
 }
 
 pub fn evaluate(s: &[u8], number: u16, x: i32) -> Evaluation
     ensures { λ r. ⌜ r ≡ evaluated (now (s .entry)) number x ⌝ }
 {
-    let reading = reader::read_formula(s, number);
-    let found = reading.found;
-    let f = reading.formula;
-    match found {
-        Found::Given => answer_at(f, x),
-        Found::Refused(r) => Evaluation::Refused(r),
+    match reader::formula_place(s, number) {
+        Place::At(place) => answer_at(s, place, x),
+        Place::Refused(r) => Evaluation::Refused(r),
     }
 }
 
 // A double as the argument: 13 comes before 10.
-fn taken_at(f: Formula, x: f64) -> Evaluation
-    requires { ⌜ Fit f ⌝ }
-    ensures { λ r. ⌜ r ≡ takenAt f x ⌝ }
+fn taken_at(s: &[u8], place: usize, x: f64) -> Evaluation
+    requires { ⌜ Standing (now s) place ⌝ }
+    ensures { λ r. ⌜ r ≡ takenAt (formulaAt (now (s .entry)) place) x ⌝ }
 {
     match door::taken(x) {
-        Taken::Word(w) => answer_at(f, w),
+        Taken::Word(w) => answer_at(s, place, w),
         Taken::NoWord => refused(10),
         Taken::NotFinite => refused(13),
     }
@@ -78,12 +100,9 @@ fn shown(e: Evaluation) -> Shown
 pub fn evaluate_double(s: &[u8], number: u16, x: f64) -> Shown
     ensures { λ r. ⌜ ShownAs (evaluatedDouble (now (s .entry)) number x) r ⌝ }
 {
-    let reading = reader::read_formula(s, number);
-    let found = reading.found;
-    let f = reading.formula;
-    match found {
-        Found::Given => shown(taken_at(f, x)),
-        Found::Refused(r) => Shown::Refused(r),
+    match reader::formula_place(s, number) {
+        Place::At(place) => shown(taken_at(s, place, x)),
+        Place::Refused(r) => Shown::Refused(r),
     }
 }
 

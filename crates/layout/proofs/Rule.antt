@@ -1,6 +1,6 @@
 -- The rule of the table: a test that is computed over its rows, and what the rows of formulas have to do with their kinds.
 use mathlib.Core.List.{List, [], _∷_}
-use mathlib.Core.Path.{_≡_, ap}
+use mathlib.Core.Path.{_≡_, refl, ap}
 use mathlib.Core.Bool.{Bool, true, false, _&&_}
 use Prim.Native.Nat.{ℕ, _+_, _*_, _≤_}
 use native.Mathlib.Nat.{mul-le-mul-left}
@@ -9,7 +9,7 @@ use lib.ListN.{length}
 use lib.Dec.{T, leb, leb→le}
 use Rattle.layout.specs.Table.{rows, rowOf}
 use Rattle.layout.specs.Fields.{wordsBy, lengthBy, Laid}
-use Rattle.layout.specs.Rule.{leastHead, Meets, Ruled, Held}
+use Rattle.layout.specs.Rule.{leastHead, Meets, Framing, Bare, Ruled, Held}
 use Rattle.layout.specs.declared.table.Class.{Class}
 use Rattle.layout.specs.declared.table.Class.the-variants.{StartRecord, FormulaRecord, EndRecord, Unknown}
 use Rattle.layout.specs.declared.table.Row.{Row}
@@ -61,6 +61,19 @@ met =
     also tt)
     (apart (λ z. omega arith))
 
+bare : (c : ℕ) → Framing (rowOf c .class) → Bare (rowOf c)
+unfolding rows
+bare =
+    each-row (λ r. Framing (r .class) → Bare r)
+    ((λ n. record { base = refl; p = refl; q = refl })
+    also (λ n. absurd n)
+    also (λ n. absurd n)
+    also (λ n. absurd n)
+    also (λ n. absurd n)
+    also (λ n. record { base = refl; p = refl; q = refl })
+    also tt)
+    (λ n. record { base = refl; p = refl; q = refl })
+
 pub ruled : (c : ℕ) → Ruled (rowOf c)
 unfolding every test rows
 ruled c =
@@ -78,6 +91,7 @@ ruled c =
       mode = leb→le _ _ (x .0);
       words = leb→le _ _ (x .1);
       kind = met c;
+      bare = bare c;
     }
 
 -- an end record has no words

@@ -7,6 +7,7 @@ use Rattle.formula.specs.Formula.{Counted, wordCount}
 use Rattle.layout.specs.declared.table.Class.{Class}
 use Rattle.layout.specs.declared.table.Class.the-variants.{StartRecord, FormulaRecord, EndRecord, Unknown}
 use Rattle.layout.specs.declared.table.Row.{Row}
+use Rattle.layout.specs.Table.{none}
 use Rattle.layout.specs.Fields.{Within, wordsBy, Laid}
 
 -- how far a class's own fields go: to the count, or to number, lo and hi
@@ -22,7 +23,20 @@ Meets r =
     (p q mode : ℕ) → Within (r .p) p → Within (r .q) q → Within (r .mode) mode
     → Counted (r .kind) p q mode × (wordCount (r .kind) p q ≡ wordsBy r p q)
 
--- the fields stand in front of the words, an array of 32 holds these, and a formula's row meets its kind
+-- a class of records that are no formulas
+abbrev pub Framing : Class → Type 0
+Framing StartRecord = Unit
+Framing FormulaRecord = ⊥
+Framing EndRecord = Unit
+Framing Unknown = Unit
+
+-- neither counts nor words: a record of the row has one length
+pub record Bare (r : Row) : Type 0 where
+  pub base : r .base ≡ 0
+  pub p : r .p ≡ none
+  pub q : r .q ≡ none
+
+-- the fields stand in front of the words, an array of 32 holds these, a formula's row meets its kind, and any other is bare
 pub record Ruled (r : Row) : Type 0 where
   pub least : leastHead (r .class) ≤ r .head
   pub most : r .head ≤ 20
@@ -31,6 +45,7 @@ pub record Ruled (r : Row) : Type 0 where
   pub mode : r .mode .at + 2 ≤ r .head
   pub words : r .base + r .p .each * r .p .most + r .q .each * r .q .most ≤ 32
   pub kind : r .class ≡ FormulaRecord → Meets r
+  pub bare : Framing (r .class) → Bare r
 
 -- the bytes of a formula record, of the length that its kind and counts ask for
 pub record Held (r : Row) (b : List ℕ) : Type 0 where

@@ -53,8 +53,16 @@ pub fn words_by(row: Row, p: u16, q: u16) -> usize
     row.base + row.p.each * (p as usize) + row.q.each * (q as usize)
 }
 
+// The same of a whole record: its length is that of its counts.
+fn words_in(b: &[u8], row: Row) -> usize
+    requires { ⌜ Held row (now b) ⌝ }
+    ensures { λ r. ⌜ r ≡ wordsBy row (shapeOf row (now (b .entry)) .p) (shapeOf row (now (b .entry)) .q) ⌝ }
+{
+    (b.len() - row.head) / 4
+}
+
 // The m words from a place on, into an array of zeros.
-pub fn fill_words(b: &[u8], at: usize, m: usize, out: &mut [i32; 32])
+fn fill_words(b: &[u8], at: usize, m: usize, out: &mut [i32; 32])
     requires { ⌜ (m ≤ 32) × (at + 4 * m ≤ length (now b)) × (now out ≡ padded []) ⌝ }
     ensures { λ _. ⌜ now (out .exit) ≡ padded (words (now (b .entry)) at m) ⌝ }
 {
@@ -65,13 +73,21 @@ pub fn fill_words(b: &[u8], at: usize, m: usize, out: &mut [i32; 32])
     }
 }
 
+// The words of a record into an array of zeros.
+pub fn stored_words(b: &[u8], row: Row, out: &mut [i32; 32])
+    requires { ⌜ Held row (now b) × (now out ≡ padded []) ⌝ }
+    ensures { λ _. ⌜ now (out .exit) ≡ formulaOf row (now (b .entry)) .words ⌝ }
+{
+    fill_words(b, row.head, words_in(b, row), out);
+}
+
 pub fn formula_of(b: &[u8], row: Row) -> Formula
     requires { ⌜ Held row (now b) ⌝ }
     ensures { λ r. ⌜ r ≡ formulaOf row (now (b .entry)) ⌝ }
 {
     let shape = shape_of(b, row);
     let mut words = [0i32; 32];
-    fill_words(b, row.head, words_by(row, shape.p, shape.q), &mut words);
+    stored_words(b, row, &mut words);
     Formula {
         number: numbers::get2(b, 6),
         shape,

@@ -1,14 +1,17 @@
 -- A record without a fault in counts and length.
-use mathlib.Core.Path.{_≡_}
+use mathlib.Core.Path.{_≡_, refl, sym, ap}
 use mathlib.Core.List.{List}
-use Prim.Native.Nat.{ℕ}
+use Prim.Native.Nat.{ℕ, zero, suc, _+_, _-_, _*_, _/_}
 use native.Mathlib.Omega.{arith}
+use mathlib.Core.Bool.{Bool, true, false, cond}
 use lib.Dec.{ltb, eqb}
 use lib.ListN.{length}
-use borrow.Author.Tests.{ltb-false, eqb-true}
+use borrow.Author.Tests.{lt-ltb, le-ltb, ltb-true, ltb-false, eq-eqb, ne-eqb, eqb-true, eqb-false}
 use Rattle.layout.specs.declared.table.Field.{Field}
 use Rattle.layout.specs.declared.table.Row.{Row}
-use Rattle.layout.specs.Fields.{shapeOf, lengthBy, Within, Laid}
+use Rattle.layout.specs.Fields.{firstCount, fieldOf, shapeOf, wordsBy, lengthBy, Within, Laid}
+use Rattle.layout.specs.Rule.{Bare}
+use Rattle.records.specs.Guard.{orElse}
 use Rattle.records.specs.Faults.{outside, countFault, sizeFault, lengthFault}
 use Rattle.records.proofs.Chain.{passed, met, neither}
 
@@ -24,6 +27,29 @@ unfolding countFault
 counted r p q e =
     let f = neither (outside (r .p) p 2) _ e in
     (inside (r .p) p 2 (λ z. omega arith) (f .0), inside (r .q) q 2 (λ z. omega arith) (f .1))
+
+-- a row without counts has one length
+pub bare-length : (r : Row) (b : List ℕ) → Bare r → lengthFault r b ≡ cond (eqb (length b) (r .head)) 0 2
+unfolding outside countFault sizeFault lengthFault firstCount fieldOf shapeOf wordsBy
+bare-length r b u = rw (u .base, u .p, u .q) (by (r .head) (length b) _ refl)
+  where
+    by : (h n p : ℕ) → p ≡ (n - h) / 4
+        → cond (ltb n h) 2 (orElse (orElse (cond (ltb p 0) 2 (cond (ltb 0 p) 2 0)) 0) (cond (eqb (h + 4 * (0 + 0 * p + 0 * 0)) n) 0 2)) ≡ cond (eqb n h) 0 2
+    by h n zero e = at (ltb n h) refl (eqb n h) refl
+      where
+        at : (t : Bool) → ltb n h ≡ t → (u : Bool) → eqb n h ≡ u → _≡_ {A = ℕ} (cond t 2 (cond (eqb (h + 4 * (0 + 0 * 0 + 0 * 0)) n) 0 2)) (cond u 0 2)
+        at true a true d = absurd (let k = ltb-true n h a in let l = eqb-true n h d in omega arith)
+        at true a false d = refl
+        at false a true d = let l = eqb-true n h d in ap (λ (t : Bool). cond t 0 2) (eq-eqb (h + 4 * (0 + 0 * 0 + 0 * 0)) n (omega arith))
+        at false a false d = let l = eqb-false n h d in ap (λ (t : Bool). cond t 0 2) (ne-eqb (h + 4 * (0 + 0 * 0 + 0 * 0)) n (λ z. l (omega arith)))
+    by h n (suc p) e = rw (le-ltb (suc p) 0 (omega arith), lt-ltb 0 (suc p) (omega arith)) (at (ltb n h))
+      where
+        more : n ≡ h → ⊥
+        more z = omega arith
+
+        at : (t : Bool) → _≡_ {A = ℕ} (cond t 2 2) (cond (eqb n h) 0 2)
+        at true = ap (λ (t : Bool). cond t 0 2) (sym (ne-eqb n h more))
+        at false = ap (λ (t : Bool). cond t 0 2) (sym (ne-eqb n h more))
 
 pub laid : (r : Row) (b : List ℕ) → lengthFault r b ≡ 0 → Laid r b
 unfolding lengthFault sizeFault

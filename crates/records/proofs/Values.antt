@@ -1,11 +1,11 @@
 -- The stored values of a formula: tests of words.
-use mathlib.Core.Path.{_≡_, refl, sym, ap, ap₂, _∙_}
+use mathlib.Core.Path.{_≡_, refl, sym, ap, ap₂, subst, _∙_}
 use mathlib.Core.List.{List, [], _∷_, _++_}
 use mathlib.Core.Bool.{Bool, true, false, cond}
-use Prim.Native.Nat.{ℕ, zero, suc, _+_, _-_, _*_, _<_}
+use Prim.Native.Nat.{ℕ, zero, suc, _+_, _-_, _*_, _<_, _≤_}
 use native.Mathlib.Numerals.{add-one}
 use native.Mathlib.Omega.{arith}
-use lib.Dec.{ltb, eqb}
+use lib.Dec.{T, ltb, eqb}
 use lib.ListN.{length, getD, drop, replicate}
 use lib.Seq.{drop-cons}
 use lib.IntN.{ℤ, pos, negsuc, natAbs}
@@ -19,7 +19,7 @@ use Rattle.layout.specs.Fields.{words, padded}
 use Rattle.records.specs.Guard.{orElse}
 use Rattle.layout.specs.Numbers.{word4}
 use Rattle.records.specs.Faults.{wordFault, wordsFault, outside, intervalFault, kindFault, ownFault, valueFault}
-use Rattle.records.proofs.Chain.{halts, goes, stop, pass, or-assoc}
+use Rattle.records.proofs.Chain.{halts, goes, stop, pass, passed, or-assoc}
 
 -- below the least word is the same as no word
 pub no-word : (z : ℤ) → SFits w32 z → ltZ z (negsuc 2147483646) ≡ ltb 2147483647 (natAbs z)
@@ -29,6 +29,28 @@ no-word (negsuc n) f = at (ltb 2147483646 n) refl
     at : (t : Bool) → ltb 2147483646 n ≡ t → t ≡ ltb 2147483647 (suc n)
     at true e = sym (lt-ltb 2147483647 (suc n) (omega (arith, ltb-true 2147483646 n e)))
     at false e = sym (le-ltb 2147483647 (suc n) (omega (arith, ltb-false 2147483646 n e)))
+
+-- an end that is not below a word is one
+not-below-word : (lo hi : ℤ) → SFits w32 hi → wordFault lo ≡ 0 → ltZ hi lo ≡ false → wordFault hi ≡ 0
+not-below-word lo hi f e o = let w = passed (ltb 2147483647 (natAbs lo)) 6 0 (λ q. omega arith) e in ap (λ (t : Bool). cond t 6 0) (le-ltb _ _ (at lo hi f (ltb-false _ _ (w .0)) o))
+  where
+    at : (lo hi : ℤ) → SFits w32 hi → natAbs lo ≤ 2147483647 → ltZ hi lo ≡ false → natAbs hi ≤ 2147483647
+    at lo (pos n) f h o = omega (arith, f .sfits)
+    at (pos m) (negsuc n) f h o = absurd (subst T o tt)
+    at (negsuc m) (negsuc n) f h o = omega (arith, ltb-false m n o)
+
+-- so the high end needs no test of its own
+pub ends-fault : (lo hi : ℤ) → SFits w32 hi → wordFault lo ≡ 0 → intervalFault lo hi ≡ cond (ltZ hi lo) 6 0
+unfolding intervalFault
+ends-fault lo hi f e = sym (pass refl e (at (ltZ hi lo) refl))
+  where
+    six : (t : Bool) → 6 ≡ orElse (cond t 6 0) 6
+    six true = refl
+    six false = refl
+
+    at : (t : Bool) → ltZ hi lo ≡ t → cond t 6 0 ≡ orElse (wordFault hi) (cond t 6 0)
+    at true o = six (ltb 2147483647 (natAbs hi))
+    at false o = pass refl (not-below-word lo hi f e o) refl
 
 -- a turn of the loop over words: the word at i is at fault, or it is not
 module _ (l : List ℤ) (i : ℕ) (h : i < length l) where

@@ -4,9 +4,11 @@ ghost use mathlib.Core.List.{[]};
 ghost use Prim.Native.Nat.{_+_, _*_, _<_, _≤_};
 ghost use lib.ListN.{length};
 ghost use Rattle.formula.specs.Formula.{Sound};
-ghost use Rattle.layout.specs.Rule.{Ruled, Held};
-ghost use Rattle.layout.specs.Fields.{shapeOf, formulaOf, Laid, words, padded};
-ghost use Rattle.records.specs.Faults.{frameFault, placeFault, outside, countFault, sizeFault, startFault, orderFault, endFault, wordFault, wordsFault, intervalFault, kindFault, ownFault, valueFault, admissionFault, innerFault, formulaFault, classFault, recordFault};
+ghost use Rattle.layout.specs.Rule.{Ruled, Bare, Held};
+ghost use Rattle.layout.specs.declared.table.Class.the-variants.{FormulaRecord};
+ghost use Rattle.layout.specs.Fields.{shapeOf, formulaOf, countOf, words, padded};
+ghost use Rattle.records.specs.Guard.{orElse};
+ghost use Rattle.records.specs.Faults.{frameFault, placeFault, outside, countFault, sizeFault, lengthFault, startFault, orderFault, endFault, wordFault, wordsFault, intervalFault, kindFault, ownFault, valueFault, admissionFault, innerFault, formulaFault, recordFault};
 use crate::walking::Walk;
 use admission::Admission;
 use formula::Kind;
@@ -165,16 +167,13 @@ fn words_fault(words: &[i32]) -> u8
     0
 }
 
+// That hi is a word follows: it is not below lo.
 fn interval_fault(lo: i32, hi: i32) -> u8
     ensures { λ r. ⌜ r ≡ intervalFault lo hi ⌝ }
 {
     let f = word_fault(lo);
     if f != 0 {
         return f;
-    }
-    let g = word_fault(hi);
-    if g != 0 {
-        return g;
     }
     if hi < lo {
         return 6;
@@ -287,20 +286,55 @@ fn formula_fault(b: &[u8], row: Row, shape: Shape, w: Walk) -> u8
     inner_fault(b, row, shape)
 }
 
-fn class_fault(b: &[u8], row: Row, shape: Shape, w: Walk) -> u8
-    requires { ⌜ Ruled row × (8 ≤ length (now b)) × (length (now b) ≤ 120) × Laid row (now b) × (shape ≡ shapeOf row (now b)) ⌝ }
-    ensures { λ r. ⌜ r ≡ classFault (row .class) row (now (b .entry)) w ⌝ }
+// A start or an end has no counts: it is as long as its head.
+fn bare_fault(b: &[u8], row: Row) -> u8
+    requires { ⌜ Bare row ⌝ }
+    ensures { λ r. ⌜ r ≡ lengthFault row (now (b .entry)) ⌝ }
 {
-    let class = row.class;
-    match class {
-        Class::StartRecord => start_fault(numbers::get2(b, 6)),
-        Class::FormulaRecord => formula_fault(b, row, shape, w),
-        Class::EndRecord => end_fault(w, numbers::get2(b, 6)),
-        Class::Unknown => 0,
+    if b.len() != row.head {
+        return 2;
     }
+    0
+}
+
+fn start_record_fault(b: &[u8], row: Row) -> u8
+    requires { ⌜ Bare row × (8 ≤ length (now b)) ⌝ }
+    ensures { λ r. ⌜ r ≡ orElse (lengthFault row (now (b .entry))) (startFault (countOf (now (b .entry)))) ⌝ }
+{
+    let f = bare_fault(b, row);
+    if f != 0 {
+        return f;
+    }
+    start_fault(numbers::get2(b, 6))
+}
+
+fn end_record_fault(b: &[u8], row: Row, w: Walk) -> u8
+    requires { ⌜ Bare row × (8 ≤ length (now b)) ⌝ }
+    ensures { λ r. ⌜ r ≡ orElse (lengthFault row (now (b .entry))) (endFault w (countOf (now (b .entry)))) ⌝ }
+{
+    let f = bare_fault(b, row);
+    if f != 0 {
+        return f;
+    }
+    end_fault(w, numbers::get2(b, 6))
 }
 
 // The counts are read once, for the length and for the formula.
+fn formula_record_fault(b: &[u8], row: Row, w: Walk) -> u8
+    requires { ⌜ Ruled row × (row .class ≡ FormulaRecord) × (length (now b) ≤ 120) ⌝ }
+    ensures { λ r. ⌜ r ≡ orElse (lengthFault row (now (b .entry))) (formulaFault row (now (b .entry)) w) ⌝ }
+{
+    if b.len() < row.head {
+        return 2;
+    }
+    let shape = fields::shape_of(b, row);
+    let f = size_fault(row, shape, b.len());
+    if f != 0 {
+        return f;
+    }
+    formula_fault(b, row, shape, w)
+}
+
 pub fn record_fault(b: &[u8], row: Row, w: Walk) -> u8
     requires { ⌜ Ruled row × (8 ≤ length (now b)) × (length (now b) ≤ 120) ⌝ }
     ensures { λ r. ⌜ r ≡ recordFault row (now (b .entry)) w ⌝ }
@@ -310,13 +344,10 @@ pub fn record_fault(b: &[u8], row: Row, w: Walk) -> u8
     if f != 0 {
         return f;
     }
-    if b.len() < row.head {
-        return 2;
+    match class {
+        Class::StartRecord => start_record_fault(b, row),
+        Class::FormulaRecord => formula_record_fault(b, row, w),
+        Class::EndRecord => end_record_fault(b, row, w),
+        Class::Unknown => 3,
     }
-    let shape = fields::shape_of(b, row);
-    let g = size_fault(row, shape, b.len());
-    if g != 0 {
-        return g;
-    }
-    class_fault(b, row, shape, w)
 }

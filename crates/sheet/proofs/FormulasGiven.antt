@@ -16,11 +16,12 @@ use Rattle.layout.proofs.Rule.{ruled}
 use Rattle.records.specs.Faults.{rowFor, valueFault, places, innerFault}
 use Rattle.records.specs.Walking.{refusal}
 use Rattle.records.specs.Sheets.{FormulaBytes, Has, SheetOf}
-use Rattle.sheet.specs.Reader.{countNumber, formulaCount, foundNumber, foundPlace, reading, withheld, foundAnswer, readAnswer, formulaRead, Accepted, Answered}
+use Rattle.sheet.specs.Reader.{countNumber, formulaCount, foundNumber, foundPlace, reading, withheld, placeFound, placeAnswer, formulaPlace, readAt, formulaRead, Accepted, Answered}
 use Rattle.sheet.specs.declared.answers.FormulaCount.{FormulaCount}
 use Rattle.sheet.specs.declared.answers.FormulaCount.the-variants.{Count, Refused}
 use Rattle.sheet.specs.declared.answers.Found.the-variants.{Given}
 use Rattle.sheet.specs.declared.answers.Reading.{Reading}
+use Rattle.records.specs.declared.walking.Walked.{Walked}
 use Rattle.records.proofs.Chain.{neither}
 use Rattle.records.proofs.Lengths.{laid}
 use Rattle.records.proofs.Soundness.{sound-record}
@@ -40,7 +41,7 @@ only-admitted Admitted e = refl
 only-admitted RangeLeft e = absurd (omega arith)
 only-admitted DivisorZero e = absurd (omega arith)
 
-fit : (b : List ℕ) → FormulaBytes b → Fit (formulaOf (rowFor b) b)
+pub fit : (b : List ℕ) → FormulaBytes b → Fit (formulaOf (rowFor b) b)
 unfolding innerFault formulaOf
 fit b f =
     let r = rowFor b in
@@ -64,9 +65,9 @@ module _ (c : ℕ) (s : List ℕ) (h : SheetOf c s) (n : ℕ) where
   place : ℕ
   place = placeIn n (length (h .start)) 0 (h .formulas)
 
-  answer-is : formulaRead s n ≡ foundAnswer s place
-  unfolding formulaRead place
-  answer-is = ap (readAnswer s) (walk-of c s h n)
+  answer-is : formulaRead s n ≡ readAt s (placeFound place)
+  unfolding formulaRead formulaPlace place
+  answer-is = ap (λ (w : Walked). readAt s (placeAnswer w)) (walk-of c s h n)
 
   gives : At n (length (h .start)) place (h .formulas) → Gives s n (h .formulas)
   gives a =
@@ -88,7 +89,7 @@ module _ (c : ℕ) (s : List ℕ) (h : SheetOf c s) (n : ℕ) where
     where
       at : ((place ≡ 0) × (Has n (h .formulas) → ⊥)) ⊎ At n (length (h .start)) place (h .formulas)
           → Gives s n (h .formulas) ⊎ ((Has n (h .formulas) → ⊥) × (formulaRead s n ≡ withheld (refusal 0 11)))
-      at (inl x) = inr (x .1, answer-is ∙ ap (foundAnswer s) (x .0))
+      at (inl x) = inr (x .1, answer-is ∙ ap (λ (k : ℕ). readAt s (placeFound k)) (x .0))
       at (inr a) = inl (gives a)
 
 -- ---- the promises

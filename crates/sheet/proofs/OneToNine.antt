@@ -26,7 +26,7 @@ use Rattle.layout.specs.Numbers.{number4}
 use Rattle.records.specs.Guard.{guard, orElse}
 use Rattle.records.specs.Faults.{frameFault, bytesAt, rowFor, placeFault, outside, countFault, sizeFault, lengthFault, startFault, orderFault, endFault, wordFault, wordsFault, intervalFault, kindFault, valueFault, places, innerFault, classFault, recordFault}
 use Rattle.records.specs.Walking.{refusal, refused, ending, classStep, recordStep, begin, onStep, stepOf, walkFrom, walkOf}
-use Rattle.sheet.specs.Reader.{countNumber, formulaCount, noNumber, countAnswer, foundNumber, withheld, readAnswer, formulaRead, Accepted, NotAccepted}
+use Rattle.sheet.specs.Reader.{countNumber, formulaCount, noNumber, countAnswer, foundNumber, withheld, placeAnswer, formulaPlace, readAt, formulaRead, Accepted, NotAccepted}
 use Rattle.records.specs.declared.walking.Walk.{Walk}
 use Rattle.records.specs.declared.walking.Walked.{Walked}
 use Rattle.records.specs.declared.walking.Walked.the-variants.{Whole, Broken}
@@ -207,10 +207,10 @@ accepted s e = at (walkOf s noNumber) refl (numbered s noNumber) e
 -- ---- the formula
 
 pub or-eleven : (s : List ℕ) (n : ℕ) → (foundNumber (formulaRead s n .found) ≤ 9) ⊎ (formulaRead s n ≡ withheld (refusal 0 11))
-unfolding formulaRead
+unfolding formulaRead formulaPlace
 or-eleven s n = at (walkOf s n) (numbered s n)
   where
-    at : (r : Walked) → Numbered r → (foundNumber (readAnswer s r .found) ≤ 9) ⊎ (readAnswer s r ≡ withheld (refusal 0 11))
+    at : (r : Walked) → Numbered r → (foundNumber (readAt s (placeAnswer r) .found) ≤ 9) ⊎ (readAt s (placeAnswer r) ≡ withheld (refusal 0 11))
     at (Whole c zero) h = inr refl
     at (Whole c (suc k)) h = inl (omega arith)
     at (Broken r) h = inl (h .1)

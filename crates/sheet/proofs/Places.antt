@@ -14,9 +14,12 @@ use Rattle.layout.specs.Fields.{formulaNumber}
 use Rattle.records.specs.Faults.{bytesAt}
 use Rattle.records.specs.Walking.{walkOf}
 use Rattle.records.specs.Sheets.{FormulaBytes, EachFormula, joined, Has, SheetOf}
-use Rattle.sheet.specs.Reader.{formulaAt, reading, foundAnswer, Standing}
+use Rattle.sheet.specs.Reader.{formulaAt, reading, placeFound, placeAnswer, formulaPlace, readAt, Standing}
+use Rattle.sheet.specs.declared.answers.Place.{Place}
+use Rattle.sheet.specs.declared.answers.Place.the-variants.{At as StandsAt, Refused as Absent}
 use Rattle.sheet.specs.declared.answers.Found.the-variants.{Given}
-use Rattle.records.specs.declared.walking.Walked.the-variants.{Whole}
+use Rattle.records.specs.declared.walking.Walked.{Walked}
+use Rattle.records.specs.declared.walking.Walked.the-variants.{Whole, Broken}
 use Rattle.records.proofs.Records.{frame-there, bytes-there}
 use Rattle.records.proofs.WalkToShape.{shape}
 use Rattle.records.proofs.ShapeToWalk.{placeIn, walked}
@@ -119,6 +122,27 @@ standing c k s n e z =
     by h q (inl x) = absurd (z (q ∙ x .0))
     by h q (inr a) = stands c s h n k (subst (λ (x : ℕ). At n (length (h .start)) x (h .formulas)) (sym q) a) .0
 
-pub given : (s : List ℕ) (k : ℕ) → (k ≡ 0 → ⊥) → foundAnswer s k ≡ reading Given (formulaAt s k)
-given s zero z = absurd (z refl)
-given s (suc k) z = refl
+-- the place that the reader answers
+pub place-standing : (s : List ℕ) (n k : ℕ) → formulaPlace s n ≡ StandsAt k → Standing s k
+unfolding formulaPlace
+place-standing s n k e = by (walkOf s n) refl e
+  where
+    noted-at : Place → ℕ
+    noted-at (StandsAt j) = j
+    noted-at (Absent r) = 0
+
+    Is : Place → Type 0
+    Is (StandsAt j) = Unit
+    Is (Absent r) = ⊥
+
+    by : (w : Walked) → walkOf s n ≡ w → placeAnswer w ≡ StandsAt k → Standing s k
+    by (Whole c zero) q p = absurd (subst Is (sym p) tt)
+    by (Whole c (suc j)) q p = subst (Standing s) (ap noted-at p) (standing c (suc j) s n q (λ z. omega arith))
+    by (Broken r) q p = absurd (subst Is (sym p) tt)
+
+pub at-place : (k : ℕ) → (k ≡ 0 → ⊥) → StandsAt k ≡ placeFound k
+at-place zero z = absurd (z refl)
+at-place (suc k) z = refl
+
+pub given : (s : List ℕ) (k : ℕ) → (k ≡ 0 → ⊥) → readAt s (placeFound k) ≡ reading Given (formulaAt s k)
+given s k z = sym (ap (readAt s) (at-place k z))

@@ -12,7 +12,7 @@ use Rattle.layout.specs.declared.table.Row.{Row}
 use Rattle.records.specs.Guard.{guard}
 use Rattle.records.specs.Faults.{frameFault, bytesAt, rowFor, orderFault, endFault, classFault, recordFault}
 use Rattle.records.specs.Walking.{walk, refusal, refused, ending, classStep, recordStep, begin, onStep, stepOf, walkFrom, walkOf}
-use Rattle.sheet.specs.Reader.{countAnswer, noNumber, formulaCount, withheld, readAnswer, formulaRead}
+use Rattle.sheet.specs.Reader.{countAnswer, noNumber, formulaCount, withheld, placeAnswer, formulaPlace, readAt, formulaRead}
 use Rattle.records.specs.declared.refusal.Refusal.{Refusal}
 use Rattle.sheet.specs.declared.answers.FormulaCount.the-variants.{Refused}
 use Rattle.records.specs.declared.walking.Walk.{Walk}
@@ -85,9 +85,9 @@ unfolding walkOf formulaCount
 same-walk s n = sym (walks 66 s (begin n)) ∙ walks 66 s (begin noNumber)
 
 pub same-refusal : (s : List ℕ) (n : ℕ) (r : Refusal) → formulaCount s ≡ Refused r → formulaRead s n ≡ withheld r
-unfolding formulaRead
+unfolding formulaRead formulaPlace
 same-refusal s n r e = at (walkOf s n) (same-walk s n ∙ e)
   where
-    at : (x : Walked) → countAnswer x ≡ Refused r → readAnswer s x ≡ withheld r
+    at : (x : Walked) → countAnswer x ≡ Refused r → readAt s (placeAnswer x) ≡ withheld r
     at (Whole c k) q = absurd (let z : _≡_ {A = ℕ} 0 1 = cc in omega arith)
     at (Broken r′) q = ap withheld cc

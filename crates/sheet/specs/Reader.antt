@@ -17,6 +17,8 @@ use Rattle.sheet.specs.declared.answers.FormulaCount.{FormulaCount}
 use Rattle.sheet.specs.declared.answers.FormulaCount.the-variants.{Count, Refused}
 use Rattle.sheet.specs.declared.answers.Found.{Found}
 use Rattle.sheet.specs.declared.answers.Found.the-variants.{Given, Refused as Withheld}
+use Rattle.sheet.specs.declared.answers.Place.{Place}
+use Rattle.sheet.specs.declared.answers.Place.the-variants.{At, Refused as Absent}
 use Rattle.sheet.specs.declared.answers.Reading.{Reading}
 use Rattle.records.specs.declared.walking.Walked.{Walked}
 use Rattle.records.specs.declared.walking.Walked.the-variants.{Whole, Broken}
@@ -60,7 +62,19 @@ Accepted s = countNumber (formulaCount s) ≡ 0
 abbrev pub NotAccepted : List ℕ → Type 0
 NotAccepted s = (1 ≤ countNumber (formulaCount s)) × (countNumber (formulaCount s) ≤ 9)
 
--- ---- the formula: 1 to 9, then 11
+-- ---- where the formula of a number stands: 1 to 9, then 11. 0 is the start's place, so no formula's
+abbrev pub placeFound : ℕ → Place
+placeFound zero = Absent (refusal 0 11)
+placeFound (suc k) = At (suc k)
+
+abbrev pub placeAnswer : Walked → Place
+placeAnswer (Whole c k) = placeFound k
+placeAnswer (Broken r) = Absent r
+
+unfoldable pub formulaPlace : List ℕ → ℕ → Place
+formulaPlace s n = placeAnswer (walkOf s n)
+
+-- ---- the formula, with the same refusals
 unfoldable pub noFormula : Formula
 noFormula = formula 0 (shape NoFormula 0 0 0) (pos 0) (pos 0) (padded [])
 
@@ -73,17 +87,12 @@ withheld r = reading (Withheld r) noFormula
 abbrev pub formulaAt : List ℕ → ℕ → Formula
 formulaAt s place = formulaOf (rowFor (bytesAt s place)) (bytesAt s place)
 
--- 0 is the start's place, so no formula's
-abbrev pub foundAnswer : List ℕ → ℕ → Reading
-foundAnswer s zero = withheld (refusal 0 11)
-foundAnswer s (suc k) = reading Given (formulaAt s (suc k))
-
-abbrev pub readAnswer : List ℕ → Walked → Reading
-readAnswer s (Whole c k) = foundAnswer s k
-readAnswer s (Broken r) = withheld r
+abbrev pub readAt : List ℕ → Place → Reading
+readAt s (At k) = reading Given (formulaAt s k)
+readAt s (Absent r) = withheld r
 
 unfoldable pub formulaRead : List ℕ → ℕ → Reading
-formulaRead s n = readAnswer s (walkOf s n)
+formulaRead s n = readAt s (formulaPlace s n)
 
 abbrev pub Answered : List ℕ → ℕ → Type 0
 Answered s n = foundNumber (formulaRead s n .found) ≡ 0

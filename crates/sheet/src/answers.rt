@@ -7,6 +7,12 @@ pub enum FormulaCount {
     Refused(Refusal),
 }
 
+// Where a formula's record stands.
+pub enum Place {
+    At(usize),
+    Refused(Refusal),
+}
+
 pub enum Found {
     Given,
     Refused(Refusal),

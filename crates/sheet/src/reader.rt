@@ -2,10 +2,11 @@
 ghost use mathlib.Core.Path.{_≡_};
 ghost use Rattle.records.specs.Faults.{rowFor};
 ghost use Rattle.records.specs.Sheets.{FormulaBytes};
-ghost use Rattle.sheet.specs.Reader.{formulaCount, noFormula, withheld, formulaAt, formulaRead, Standing};
+ghost use Rattle.sheet.specs.Reader.{formulaCount, formulaPlace, noFormula, withheld, formulaAt, formulaRead, Standing};
 ghost use Rattle.layout.specs.Fields.{formulaOf};
 use crate::answers::FormulaCount;
 use crate::answers::Found;
+use crate::answers::Place;
 use crate::answers::Reading;
 use formula::Formula;
 use formula::Kind;
@@ -26,6 +27,24 @@ pub fn formula_count(s: &[u8]) -> FormulaCount
     match walking::walk_over(s, NO_NUMBER) {
         Walked::Whole { count, found: _ } => FormulaCount::Count(count),
         Walked::Broken(r) => FormulaCount::Refused(r),
+    }
+}
+
+// For a caller that reads the record's fields itself.
+pub fn formula_place(s: &[u8], number: u16) -> Place
+    ensures { λ r. ⌜ r ≡ formulaPlace (now (s .entry)) number ⌝ }
+{
+    match walking::walk_over(s, number as u32) {
+        Walked::Whole { count: _, found } => {
+            if found == 0 {
+                return Place::Refused(Refusal {
+                    number: 11,
+                    place: 0,
+                });
+            }
+            Place::At(found)
+        }
+        Walked::Broken(r) => Place::Refused(r),
     }
 }
 
@@ -74,19 +93,11 @@ fn formula_at(s: &[u8], place: usize) -> Formula
 pub fn read_formula(s: &[u8], number: u16) -> Reading
     ensures { λ r. ⌜ r ≡ formulaRead (now (s .entry)) number ⌝ }
 {
-    match walking::walk_over(s, number as u32) {
-        Walked::Whole { count: _, found } => {
-            if found == 0 {
-                return withheld(Refusal {
-                    number: 11,
-                    place: 0,
-                });
-            }
-            Reading {
-                found: Found::Given,
-                formula: formula_at(s, found),
-            }
-        }
-        Walked::Broken(r) => withheld(r),
+    match formula_place(s, number) {
+        Place::At(place) => Reading {
+            found: Found::Given,
+            formula: formula_at(s, place),
+        },
+        Place::Refused(r) => withheld(r),
     }
 }

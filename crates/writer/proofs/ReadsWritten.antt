@@ -15,7 +15,8 @@ use Rattle.layout.specs.Fields.{formulaNumber, formulaOf}
 use Rattle.records.specs.Faults.{bytesAt, rowFor}
 use Rattle.records.specs.Sheets.{FormulaBytes, EachFormula, Rising, joined, Has, SheetOf}
 use Rattle.records.specs.Walking.{walkOf}
-use Rattle.sheet.specs.Reader.{formulaCount, noNumber, countAnswer, reading, readAnswer, formulaRead}
+use Rattle.records.specs.declared.walking.Walked.{Walked}
+use Rattle.sheet.specs.Reader.{formulaCount, noNumber, countAnswer, reading, placeAnswer, formulaPlace, readAt, formulaRead}
 use Rattle.sheet.specs.declared.answers.FormulaCount.{FormulaCount}
 use Rattle.sheet.specs.declared.answers.FormulaCount.the-variants.{Count, Refused}
 use Rattle.sheet.specs.declared.answers.Found.the-variants.{Given}
@@ -133,7 +134,7 @@ has b (x ∷ xs) (inr i) = inr (has b xs i)
 
 -- the reader gives the formula of a record that a sheet has
 pub reads-record : (c : ℕ) (s : List ℕ) (h : SheetOf c s) (b : List ℕ) → In b (h .formulas) → formulaRead s (formulaNumber b) ≡ reading Given (formulaOf (rowFor b) b)
-unfolding formulaRead
+unfolding formulaRead formulaPlace
 reads-record c s h b i = by (noted n (length (h .start)) 0 (h .formulas))
   where
     n : ℕ
@@ -146,12 +147,12 @@ reads-record c s h b i = by (noted n (length (h .start)) 0 (h .formulas))
     middle [] r x = inl refl
     middle (y ∷ l) r x = inr (middle l r x)
 
-    by : ((place ≡ 0) × (Has n (h .formulas) → ⊥)) ⊎ At n (length (h .start)) place (h .formulas) → readAnswer s (walkOf s n) ≡ reading Given (formulaOf (rowFor b) b)
+    by : ((place ≡ 0) × (Has n (h .formulas) → ⊥)) ⊎ At n (length (h .start)) place (h .formulas) → readAt s (placeAnswer (walkOf s n)) ≡ reading Given (formulaOf (rowFor b) b)
     by (inl x) = absurd (x .1 (has b (h .formulas) i))
     by (inr a) =
         let same : a .here ≡ b = only 0 (a .here) b (h .formulas) (h .rising) (subst (In (a .here)) (sym (a .is)) (middle (a .before) (a .after) (a .here))) i (a .number) in
         let there : bytesAt s place ≡ b = stands c s h n place a .1 ∙ same in
-        ap (readAnswer s) (walk-of c s h n) ∙ given s place (λ z. omega (arith, a .place, z, h .opens .0 .least)) ∙ ap (λ (x : List ℕ). reading Given (formulaOf (rowFor x) x)) there
+        ap (λ (w : Walked). readAt s (placeAnswer w)) (walk-of c s h n) ∙ given s place (λ z. omega (arith, a .place, z, h .opens .0 .least)) ∙ ap (λ (x : List ℕ). reading Given (formulaOf (rowFor x) x)) there
 
 -- ---- the promise
 

@@ -1,33 +1,32 @@
 -- `board::evaluate` meets its contract.
 use borrow.Author.Needs.{needs}
-use mathlib.Core.Path.{ap, _∙_}
-use Rattle.whole.proofs.Held.{held, arg}
+use mathlib.Core.Path.{sym, _∙_}
+use denote.Ref.{now}
+use mir.Facts.{toZ-ofZ}
 use Rattle.formula.specs.declared.Formula.{Formula}
+use Rattle.sheet.proofs.Places.{place-standing}
 use Rattle.board.specs.Board.{answerAt}
-use Rattle.board.proofs.ReadingLaws.{fits-given, when-given, when-refused}
+use Rattle.board.proofs.ReadingLaws.{when-at, when-refused}
 use Rattle.board.proofs.evaluate.Statement.{statement}
 use Rattle.board.proofs.evaluate.Tie as tie
 
 answer-at-requires : tie.Need-answer-at-requires
 answer-at-requires c κs =
-    let b = c .before .before .before in
-    let a = b .before .before .args in
-    fits-given (a .s .now) (a .number) (b .read-formula .result) (b .read-formula .ensures) (c .enum-told .given .1)
+    let p = c .before in
+    place-standing _ _ _ (sym (p .before .before .formula-place .ensures) ∙ p .place .given .1)
 
 returns : tie.Need-returns
 returns c =
-    let b = c .before .before .before .before in
-    let d = b .before .before in
-    let a = d .args in
-    c .answer-at .ensures
-    ∙ ap (answerAt (b .read-formula .result .formula)) (held (arg (d .fits .x)))
-    ∙ when-given (a .s .now) (a .number) (b .read-formula .result) (b .read-formula .ensures) (c .before .enum-told .given .1) (λ (f : Formula). answerAt f (a .x))
+    let p = c .before .before in
+    let d = p .before .before .before .before in
+    rw (toZ-ofZ (d .fits .x)) at (c .answer-at .ensures)
+    ∙ when-at (now (d .args .s)) (d .args .number) (λ (f : Formula). answerAt f (d .args .x)) _ (sym (p .before .before .formula-place .ensures) ∙ p .place .given .1)
 
 returns-2 : tie.Need-returns-2
 returns-2 c =
-    let b = c .before .before .before .before in
-    let a = b .before .before .args in
-    when-refused (a .s .now) (a .number) (b .read-formula .result) (b .read-formula .ensures) (c .before .found .given .0 .0) (λ (f : Formula). answerAt f (a .x)) (c .before .found .given .1)
+    let p = c .before in
+    let d = p .before .before .before .before in
+    when-refused (now (d .args .s)) (d .args .number) (λ (f : Formula). answerAt f (d .args .x)) _ (sym (p .before .before .formula-place .ensures) ∙ p .r .given .1)
 
 pub evaluate-spec : {M : Type 1} → statement M
 evaluate-spec =

@@ -1,11 +1,12 @@
 use borrow.Author.Needs.{needs}
-use borrow.Author.Tests.{lt-ltb, le-ltb}
-use mathlib.Core.Path.{_≡_, _∙_, sym}
-use native.Mathlib.Omega.{arith}
+use mathlib.Core.Path.{_≡_, _∙_, refl, sym, ap, subst}
+use Prim.Native.Nat.{ℕ}
 use denote.Ref.{now}
-use Rattle.records.specs.Faults.{lengthFault, recordFault}
+use Rattle.layout.specs.declared.table.Class.{Class}
+use Rattle.layout.specs.Rule.{Framing}
+use Rattle.records.specs.Guard.{orElse}
+use Rattle.records.specs.Faults.{lengthFault, classFault, recordFault}
 use Rattle.records.proofs.Chain.{stop, pass}
-use Rattle.records.proofs.Lengths.{laid}
 use Rattle.records.proofs.faults.record_fault.Statement.{statement}
 use Rattle.records.proofs.faults.record_fault.Tie as tie
 
@@ -13,40 +14,36 @@ returns : tie.Need-returns
 unfolding recordFault
 returns c = stop _ (c .before .place-fault .ensures) (c .if1 .taken)
 
-short : (c : tie.Then2) → 2 ≡ lengthFault (c .before .before .before .before .before .args .row) (now (c .before .before .before .before .before .args .b))
-unfolding lengthFault
-short c = simp (lt-ltb _ _ (c .if2 .taken))
+start-record-fault-requires : tie.Need-start-record-fault-requires
+start-record-fault-requires c κs =
+    let s = c .before .before .before .before .before in
+    (s .pre .0 .bare (subst Framing (sym (c .enum-told .given .1)) tt), s .pre .1)
+
+end-record-fault-requires : tie.Need-end-record-fault-requires
+end-record-fault-requires c κs =
+    let s = c .before .before .before .before .before in
+    (s .pre .0 .bare (subst Framing (sym (c .enum-told3 .given .1)) tt), s .pre .1)
+
+-- past the place, by the class that the match told
+module _ (c : tie.After-place-fault) (clear : c .place-fault .result ≡ 0) where
+  past : {f : ℕ} {k : Class} →
+      let a = c .before .before .args in
+      a .row .class ≡ k → f ≡ orElse (lengthFault (a .row) (now (a .b))) (classFault k (a .row) (now (a .b)) (a .w)) → f ≡ recordFault (a .row) (now (a .b)) (a .w)
+  unfolding recordFault
+  past e q = let a = c .before .before .args in pass (c .place-fault .ensures) clear (q ∙ ap (λ (k : Class). orElse (lengthFault (a .row) (now (a .b))) (classFault k (a .row) (now (a .b)) (a .w))) (sym e))
 
 returns-2 : tie.Need-returns-2
-unfolding recordFault
-returns-2 c =
-    let i = c .before .before in
-    pass (i .before .place-fault .ensures) (i .if1 .left) (stop _ (short c) (λ z. omega arith))
-
--- exact length, of the record's own counts
-exact : (c : tie.After-size-fault) →
-    let a = c .before .before .before .before .before .before .before .args in
-    c .size-fault .result ≡ lengthFault (a .row) (now (a .b))
-unfolding lengthFault
-exact c = rw (le-ltb _ _ (c .before .before .if2 .left)) (rw (c .before .shape-of .ensures) at (c .size-fault .ensures))
+returns-2 c = let i = c .before .before .before in past (i .before) (i .if1 .left) (c .before .enum-told .given .1) (c .start-record-fault .ensures)
 
 returns-3 : tie.Need-returns-3
-unfolding recordFault
-returns-3 c =
-    let i = c .before .before .before .before .before in
-    pass (i .before .place-fault .ensures) (i .if1 .left) (stop _ (exact (c .before)) (c .if3 .taken))
-
-class-fault-requires : tie.Need-class-fault-requires
-class-fault-requires c κs =
-    let h = c .before .before .before .before .before .before .before .before .pre in
-    (h .0, h .1, h .2, laid _ _ (sym (exact (c .before)) ∙ c .if3 .left), c .before .before .shape-of .ensures)
+returns-3 c = let i = c .before .before .before in past (i .before) (i .if1 .left) (c .before .enum-told2 .given .1) (c .formula-record-fault .ensures)
 
 returns-4 : tie.Need-returns-4
+returns-4 c = let i = c .before .before .before in past (i .before) (i .if1 .left) (c .before .enum-told3 .given .1) (c .end-record-fault .ensures)
+
+returns-5 : tie.Need-returns-5
 unfolding recordFault
-returns-4 c =
-    let l = c .before in
-    let i = l .before .before .before .before .before in
-    pass (i .before .place-fault .ensures) (i .if1 .left) (pass (exact (l .before)) (l .if3 .left) (c .class-fault .ensures))
+returns-5 c = let a = c .before .before .before .before .before .args in rw (c .enum-told4 .given .1) refl
 
 pub record-fault-spec : {M : Type 1} → statement M
 record-fault-spec =
@@ -54,9 +51,14 @@ record-fault-spec =
     (tie.spec
     (λ c κs. search needs)
     returns
+    (λ c. search needs)
+    start-record-fault-requires
+    (λ c. search needs)
+    (λ c κs. search needs)
+    (λ c. search needs)
+    end-record-fault-requires
+    (λ c. search needs)
     returns-2
-    (λ c κs. search needs)
-    (λ c κs. search needs)
     returns-3
-    class-fault-requires
-    returns-4)
+    returns-4
+    returns-5)

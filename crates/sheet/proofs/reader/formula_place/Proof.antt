@@ -1,0 +1,28 @@
+use borrow.Author.Needs.{needs}
+use mathlib.Core.Path.{_≡_, _∙_, sym, ap}
+use denote.Ref.{now}
+use Rattle.sheet.specs.Reader.{placeFound, placeAnswer, formulaPlace}
+use Rattle.sheet.proofs.Places.{at-place}
+use Rattle.sheet.proofs.reader.formula_place.Statement.{statement}
+use Rattle.sheet.proofs.reader.formula_place.Tie as tie
+
+returns : tie.Need-returns
+unfolding formulaPlace
+returns c =
+    let f = c .before .before in
+    ap placeFound (sym (c .if1 .taken)) ∙ ap placeAnswer (sym (f .found .given .1) ∙ f .before .before .walk-over .ensures)
+
+returns-2 : tie.Need-returns-2
+unfolding formulaPlace
+returns-2 c =
+    let f = c .before .before in
+    at-place _ (c .if1 .left) ∙ ap placeAnswer (sym (f .found .given .1) ∙ f .before .before .walk-over .ensures)
+
+returns-3 : tie.Need-returns-3
+unfolding formulaPlace
+returns-3 c = let f = c .before in ap placeAnswer (sym (f .r .given .1) ∙ f .before .before .walk-over .ensures)
+
+pub formula-place-spec : {M : Type 1} → statement M
+formula-place-spec =
+    tie.close
+    (tie.spec (λ c κs. search needs) (λ c. search needs) returns (λ c. search needs) returns-2 returns-3)
