@@ -13,6 +13,9 @@ static unsigned long long seed = 88172645463325252ULL;
 static unsigned long long draw(void) { seed ^= seed << 13; seed ^= seed >> 7; seed ^= seed << 17; return seed; }
 static volatile unsigned places = PLACES;      /* so that no compiler knows the scale */
 static wide answers[2];
+static const unsigned char *run = all_sheet + 8;
+static const unsigned long run_length = sizeof all_sheet - 16;
+static unsigned char out[sizeof all_sheet];
 
 #ifdef TIMES
 struct moment { long seconds, nanoseconds; };
@@ -49,8 +52,9 @@ int main(void) {
     ROW("rational, 3 over 3", plain_rational(top, 3, bottom, 3, near_one[i], s), measured_rational(top, 3, bottom, 3, near_one[i], s));
     ROW("fraction, depth 7", plain_fraction(tangent, 7, 2, near_one[i], s), measured_fraction(tangent, 7, 2, near_one[i], s));
     ROW("root", plain_root(positive[i], s), measured_root(positive[i], s));
-    ROW("sheet of 64 formulas", plain_count(all_sheet, sizeof all_sheet), measured_count(all_sheet, sizeof all_sheet));
-    ROW("one polynomial's sheet", plain_evaluate(sine_sheet, sizeof sine_sheet, 12, near_one[i]), measured_evaluate(sine_sheet, sizeof sine_sheet, 12, near_one[i]));
-    ROW("one fraction's sheet", plain_evaluate(tangent_sheet, sizeof tangent_sheet, 54, near_one[i] / 2), measured_evaluate(tangent_sheet, sizeof tangent_sheet, 54, near_one[i] / 2));
+    ROW("reading 64 formulas", plain_count(all_sheet, sizeof all_sheet), measured_count(all_sheet, sizeof all_sheet));
+    ROW("writing 64 formulas", plain_write_sheet(run, run_length, out, sizeof out), measured_write_sheet(run, run_length, out, sizeof out));
+    ROW("one-call polynomial", plain_evaluate(sine_sheet, sizeof sine_sheet, 12, near_one[i]), measured_evaluate(sine_sheet, sizeof sine_sheet, 12, near_one[i]));
+    ROW("one-call fraction", plain_evaluate(tangent_sheet, sizeof tangent_sheet, 54, near_one[i] / 2), measured_evaluate(tangent_sheet, sizeof tangent_sheet, 54, near_one[i] / 2));
     return 0;
 }

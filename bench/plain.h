@@ -11,6 +11,7 @@ word plain_fraction(const word *c, unsigned long k, unsigned mode, word x, unsig
 word plain_root(word x, unsigned s);
 unsigned short plain_count(const unsigned char *sheet, unsigned long n);
 word plain_evaluate(const unsigned char *sheet, unsigned long n, unsigned short number, word x);
+unsigned long plain_write_sheet(const unsigned char *run, unsigned long n, unsigned char *out, unsigned long room);
 
 /* the proved ones: a slice is a pointer and a length */
 wide measured_product(word a, word b, unsigned s);
@@ -21,4 +22,5 @@ word measured_fraction(const word *c, unsigned long k, unsigned mode, word x, un
 word measured_root(word x, unsigned s);
 unsigned short measured_count(const unsigned char *sheet, unsigned long n);
 word measured_evaluate(const unsigned char *sheet, unsigned long n, unsigned short number, word x);
+unsigned long measured_write_sheet(const unsigned char *run, unsigned long n, unsigned char *out, unsigned long room);
 #endif
