@@ -5,3 +5,5 @@ mod kinds;
 pub mod record_writer;
 mod runs;
 pub mod sheet_writer;
+
+pub use kinds::code_for;

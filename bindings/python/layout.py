@@ -1,0 +1,11 @@
+"""Prints each struct of the binding and where its fields stand, as
+tests/layout.c prints those of the header."""
+
+import ctypes
+
+import valvepigeon
+
+for name, struct in valvepigeon.STRUCTS.items():
+    print(name, ctypes.sizeof(struct))
+    for field, _ in struct._fields_:
+        print("%s.%s %d" % (name, field, getattr(struct, field).offset))

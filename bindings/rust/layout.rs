@@ -1,0 +1,23 @@
+//! Prints each struct of the binding and where its fields stand, as tests/layout.c prints those of the header.
+#[allow(dead_code)]
+mod valvepigeon;
+
+use std::mem::{offset_of, size_of};
+use valvepigeon::raw::*;
+
+macro_rules! layout {
+    ($name:literal, $type:ty: $($field:ident)*) => {
+        println!("{} {}", $name, size_of::<$type>());
+        $(println!("{}.{} {}", $name, stringify!($field), offset_of!($type, $field));)*
+    };
+}
+
+fn main() {
+    layout!("vp_fields", Fields: kind number lo hi p q mode words);
+    layout!("vp_counted", Counted: refused place count);
+    layout!("vp_found", Found: refused place fields);
+    layout!("vp_worked", Worked: refused place word);
+    layout!("vp_shown", Shown: refused place value);
+    layout!("vp_ends", Ends: refused place low high);
+    layout!("vp_written", Written: refused place length);
+}

@@ -1,0 +1,78 @@
+-- Promise: each function settles its result, and what the lent buffers hold afterwards: two that satisfy its contract are equal.
+use mathlib.Core.Path.{_≡_, sym, _∙_}
+use denote.Ref.{now}
+use denote.Triple.Clauses.{AtExit}
+use contract.Lifetimes.{Lfts}
+use borrow.Fn.Kinds.{Dens, endedOf, resT}
+use Rattle.whole.proofs.Settled.{Settled}
+use Rattle.door.proofs.Determined.{exactly-unique}
+use Rattle.formula.specs.declared.Formula.{Formula}
+use Rattle.records.specs.Faults.{places}
+use Rattle.sheet.specs.Reader.{formulaRead}
+use Rattle.sheet.specs.declared.answers.Found.{Found}
+use Rattle.sheet.specs.declared.answers.Found.the-variants.{Given, Refused as Withheld}
+use Rattle.board.specs.Board.{evaluatedDouble}
+use Rattle.board.specs.declared.answers.Evaluation.{Evaluation}
+use Rattle.board.specs.declared.answers.Evaluation.the-variants.{Answered, Refused}
+use Rattle.valvepigeon.specs.Answers.{ShownBy, Spans}
+use Rattle.valvepigeon.specs.declared.answers.ShownValue.{ShownValue}
+use Rattle.valvepigeon.specs.declared.answers.IntervalEnds.{IntervalEnds}
+use Rattle.valvepigeon.proofs.vp_count.Kinds as count-kinds
+use Rattle.valvepigeon.proofs.vp_count.Reads as count-reads
+use Rattle.valvepigeon.proofs.vp_formula.Kinds as formula-kinds
+use Rattle.valvepigeon.proofs.vp_formula.Reads as formula-reads
+use Rattle.valvepigeon.proofs.vp_evaluate.Kinds as evaluate-kinds
+use Rattle.valvepigeon.proofs.vp_evaluate.Reads as evaluate-reads
+use Rattle.valvepigeon.proofs.vp_evaluate_double.Kinds as double-kinds
+use Rattle.valvepigeon.proofs.vp_evaluate_double.Reads as double-reads
+use Rattle.valvepigeon.proofs.vp_interval.Kinds as interval-kinds
+use Rattle.valvepigeon.proofs.vp_interval.Reads as interval-reads
+use Rattle.valvepigeon.proofs.vp_write_record.Kinds as record-kinds
+use Rattle.valvepigeon.proofs.vp_write_record.Reads as record-reads
+use Rattle.valvepigeon.proofs.vp_write_sheet.Kinds as sheet-kinds
+use Rattle.valvepigeon.proofs.vp_write_sheet.Reads as sheet-reads
+
+-- ---- results
+
+pub count-settled : Settled count-kinds.ps count-kinds.r count-reads.Learnt
+count-settled κs a x y s t p q = p ∙ sym q
+
+pub formula-settled : Settled formula-kinds.ps formula-kinds.r formula-reads.Learnt
+formula-settled κs a x y s t p q = p ∙ sym q
+
+pub evaluate-settled : Settled evaluate-kinds.ps evaluate-kinds.r evaluate-reads.Learnt
+evaluate-settled κs a x y s t p q = p ∙ sym q
+
+-- only one double is exactly a word divided by 2^24
+shown-once : (e : Evaluation) (x y : ShownValue) → ShownBy e x → ShownBy e y → x ≡ y
+shown-once (Answered w) x y p q = λ i. record { refused = (p .0 ∙ sym (q .0)) i; place = (p .1 ∙ sym (q .1)) i; value = exactly-unique places (w .word) (x .value) (y .value) (p .2) (q .2) i }
+shown-once (Refused r) x y p q = p ∙ sym q
+
+pub evaluate-double-settled : Settled double-kinds.ps double-kinds.r double-reads.Learnt
+evaluate-double-settled κs a x y s t p q = shown-once (evaluatedDouble (now (a .0)) (a .1 .0) (a .1 .1 .0)) x y p q
+
+spans-once : (a : Found) (f : Formula) (x y : IntervalEnds) → Spans a f x → Spans a f y → x ≡ y
+spans-once Given f x y p q =
+    let low = exactly-unique places (f .lo) (x .low) (y .low) (p .2) (q .2) in
+    let high = exactly-unique places (f .hi) (x .high) (y .high) (p .3) (q .3) in
+    λ i. record { refused = (p .0 ∙ sym (q .0)) i; place = (p .1 ∙ sym (q .1)) i; low = low i; high = high i }
+spans-once (Withheld r) f x y p q = p ∙ sym q
+
+pub interval-settled : Settled interval-kinds.ps interval-kinds.r interval-reads.Learnt
+interval-settled κs a x y s t p q = (let r = formulaRead (now (a .0)) (a .1 .0) in spans-once (r .found) (r .formula) x y p q)
+
+pub write-record-settled : Settled record-kinds.ps record-kinds.r record-reads.Learnt
+write-record-settled κs a x y s t p q = p .0 ∙ sym (q .0)
+
+pub write-sheet-settled : Settled sheet-kinds.ps sheet-kinds.r sheet-reads.Learnt
+write-sheet-settled κs a x y s t p q = p .0 ∙ sym (q .0)
+
+-- ---- lent buffers: each writer's `out` is its second parameter, the only one that can change
+
+pub record-buffer-settled : (κs : Lfts 1) (a : Dens κs record-kinds.ps) (x y : resT record-kinds.r κs .Denot) (s t : AtExit (endedOf 1 record-kinds.ps record-kinds.r) κs)
+    → record-reads.Learnt κs a x s → record-reads.Learnt κs a y t → now (s .1 .0) ≡ now (t .1 .0)
+record-buffer-settled κs a x y s t p q = p .1 ∙ sym (q .1)
+
+pub sheet-buffer-settled : (κs : Lfts 2) (a : Dens κs sheet-kinds.ps) (x y : resT sheet-kinds.r κs .Denot) (s t : AtExit (endedOf 2 sheet-kinds.ps sheet-kinds.r) κs)
+    → sheet-reads.Learnt κs a x s → sheet-reads.Learnt κs a y t → now (s .1 .0) ≡ now (t .1 .0)
+sheet-buffer-settled κs a x y s t p q = p .1 ∙ sym (q .1)

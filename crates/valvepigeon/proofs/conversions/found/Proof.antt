@@ -1,0 +1,31 @@
+-- `valvepigeon::conversions::found` meets its contract.
+use borrow.Author.Needs.{needs}
+use mathlib.Core.Path.{sym, ap, _∙_}
+use Rattle.sheet.specs.declared.answers.Found.{Found}
+use Rattle.valvepigeon.specs.declared.answers.Fields.{Fields}
+use Rattle.valvepigeon.specs.Answers.{foundBy}
+use Rattle.valvepigeon.proofs.conversions.found.Statement.{statement}
+use Rattle.valvepigeon.proofs.conversions.found.Tie as tie
+
+returns : tie.Need-returns
+returns c =
+    let f = c .before .before .before .before .args .reading .formula in
+    ap (λ (x : Fields). record { refused = 0; place = 0; fields = x }) (c .fields-of .ensures) ∙ ap (λ (a : Found). foundBy a f) (sym (c .before .enum-told .given .1))
+
+returns-2 : tie.Need-returns-2
+returns-2 c =
+    let q = c .before .before .before .found .given in
+    let f = c .before .before .before .before .before .before .args .reading .formula in
+    ap (λ (x : Fields). record { refused = q .0 .0 .number; place = q .0 .0 .place; fields = x }) (c .no-fields .ensures) ∙ ap (λ (a : Found). foundBy a f) (sym (q .1))
+
+pub found-spec : {M : Type 1} → statement M
+found-spec =
+    tie.close
+    (tie.spec
+    (λ c. search needs)
+    (λ c κs. search needs)
+    (λ c. search needs)
+    (λ c. search needs)
+    (λ c κs. search needs)
+    returns
+    returns-2)

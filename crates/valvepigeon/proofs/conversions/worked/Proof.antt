@@ -1,0 +1,25 @@
+-- `valvepigeon::conversions::worked` meets its contract.
+use borrow.Author.Needs.{needs}
+use mathlib.Core.Path.{sym, ap, _∙_}
+use lib.IntN.{ℤ}
+use mir.Syntax.{w32}
+use mir.Val.{SFits}
+use Rattle.whole.proofs.Held.{held, arg}
+use Rattle.board.specs.Board.{answered}
+use Rattle.valvepigeon.specs.Answers.{worked}
+use Rattle.valvepigeon.proofs.conversions.worked.Statement.{statement}
+use Rattle.valvepigeon.proofs.conversions.worked.Tie as tie
+
+fits-word : (c : tie.After-struct-told) → SFits w32 (c .before .before .answer .given .0 .0 .word)
+fits-word c = search (needs, c .struct-told .given)
+
+returns : tie.Need-returns
+returns c =
+    let a = c .before .before .answer .given in
+    ap (λ (z : ℤ). worked (answered z)) (held (arg {w = w32} {x = a .0 .0 .word} (fits-word c))) ∙ ap worked (sym (a .1))
+
+returns-2 : tie.Need-returns-2
+returns-2 c = ap worked (sym (c .before .before .answer2 .given .1))
+
+pub worked-spec : {M : Type 1} → statement M
+worked-spec = tie.close (tie.spec (λ c. search needs) (λ c. search needs) (λ c. search needs) returns returns-2)

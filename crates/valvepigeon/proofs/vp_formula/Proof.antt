@@ -1,0 +1,12 @@
+-- `valvepigeon::vp_formula` meets its contract.
+use borrow.Author.Needs.{needs}
+use mathlib.Core.Path.{ap, _∙_}
+use Rattle.valvepigeon.specs.Answers.{found}
+use Rattle.valvepigeon.proofs.vp_formula.Statement.{statement}
+use Rattle.valvepigeon.proofs.vp_formula.Tie as tie
+
+returns : tie.Need-returns
+returns c = c .found .ensures ∙ ap found (c .before .read-formula .ensures)
+
+pub vp-formula-spec : {M : Type 1} → statement M
+vp-formula-spec = tie.close (tie.spec (λ c κs. search needs) (λ c κs. search needs) returns)

@@ -1,0 +1,19 @@
+-- `valvepigeon::vp_interval` meets its contract.
+use borrow.Author.Needs.{needs}
+use mathlib.Core.Path.{sym, subst}
+use Rattle.sheet.specs.Reader.{formulaRead}
+use Rattle.valvepigeon.specs.Answers.{SpannedBy}
+use Rattle.valvepigeon.specs.declared.answers.IntervalEnds.{IntervalEnds}
+use Rattle.valvepigeon.proofs.DoubleLaws.{spans-by}
+use Rattle.valvepigeon.proofs.vp_interval.Statement.{statement}
+use Rattle.valvepigeon.proofs.vp_interval.Tie as tie
+
+returns : tie.Need-returns
+returns c =
+    let a = c .before .before .before .args in
+    let r = formulaRead (a .sheet .now) (a .number) in
+    let b = c .before .interval in
+    subst (λ (x : IntervalEnds). SpannedBy r x) (sym (c .spanned .ensures)) (spans-by (r .found) (r .formula) (b .result) (b .ensures))
+
+pub vp-interval-spec : {M : Type 1} → statement M
+vp-interval-spec = tie.close (tie.spec (λ c κs. search needs) (λ c κs. search needs) returns)

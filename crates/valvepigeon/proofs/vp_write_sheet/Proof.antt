@@ -1,0 +1,21 @@
+-- `valvepigeon::vp_write_sheet` meets its contract.
+use borrow.Author.Needs.{needs}
+use mathlib.Core.Path.{ap, _∙_}
+use denote.Ref.{now}
+use Rattle.writer.specs.Answers.{bufferAfter}
+use Rattle.writer.specs.SheetWriter.{sheetOf}
+use Rattle.writer.specs.declared.answers.Writing.{Writing}
+use Rattle.valvepigeon.specs.Answers.{written}
+use Rattle.valvepigeon.proofs.vp_write_sheet.Statement.{statement}
+use Rattle.valvepigeon.proofs.vp_write_sheet.Tie as tie
+
+returns : tie.Need-returns
+returns c =
+    let w = c .before .before .before in
+    let a = w .before .before .before .before .args in
+    let e = w .write-sheet .ensures .0 in
+    (c .written .ensures ∙ ap written e, w .write-sheet .ensures .1 ∙ ap (λ (r : Writing). bufferAfter r (sheetOf (now (a .run))) (now (a .out))) e)
+
+pub vp-write-sheet-spec : {M : Type 1} → statement M
+vp-write-sheet-spec =
+    tie.close (tie.spec (λ c κs. search needs) (λ c κs. search needs) (λ c. search needs) returns)

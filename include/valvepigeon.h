@@ -1,0 +1,138 @@
+/* Valvepigeon: formula sheets, and the fixed-point arithmetic behind them. For x86-64 Linux; C99 or later, and C++.
+
+   Numbers. A word is a whole number from -2147483647 to 2147483647, and stands for itself divided by 2^24; 16777216 is one.
+   The pattern -2147483648 is no word.
+
+   Sheets. A sheet is a run of bytes: one start record, 1 to 64 formula records with strictly rising numbers, and one end
+   record. Every function takes any bytes, of any length, any numbers and any arguments: it ends with an answer or with a
+   numbered refusal, and nothing has to be checked before the call. No function keeps anything, allocates, or reads or writes
+   outside what it is lent, so calls may run at the same time.
+
+   Pointers. A pointer and a length lend the bytes from that pointer on for the length of the call. A pointer may not be null,
+   even where the length is 0. What a writer is lent as `out` may not overlap what it is lent to read.
+
+   Answers. Each result begins with `refused`, 0 or the number of the refusal, and `place`. When refused, every field after
+   these two is 0 (a double is plus zero) and no byte of a lent buffer has changed; when not, `refused` and `place` are 0.
+
+   no.  given when
+    1   the bytes stop before a record does
+    2   a length below 8, above 120, or not that of its kind and counts; a count of coefficients or depth outside its range
+    3   unknown kind, or a start or formula record out of place; in the record writer, a kind that is no formula
+    4   start count not 1 to 64; a formula too many; an end after too few or with another count; an empty run
+    5   number not above the one before
+    6   a stored value is no word, lo above hi, mode above 2, or a root with lo below 0
+    7   the range may be left
+    8   the divisor may reach 0
+    9   bytes after the end record
+   10   argument outside lo..hi, both ends inside
+   11   no formula of that number
+   12   output buffer too short
+   13   a double that is infinite or not a number
+
+   Refusals 1 to 8 give the first byte of their record as the place, 9 the first byte too many; 10 to 13 give 0. The record
+   writer gives place 0 always. In the sheet writer places count from the new sheet's first byte, so the run begins at 8. */
+#ifndef VALVEPIGEON_H
+#define VALVEPIGEON_H
+
+#include <stddef.h>
+#include <stdint.h>
+
+#ifdef __cplusplus
+extern "C" {
+#endif
+
+/* The kinds of formula records, as `kind` has them. */
+#define VP_POLYNOMIAL 0x0010
+#define VP_RATIONAL 0x0011
+#define VP_FRACTION 0x0012
+#define VP_ROOT 0x0013
+
+/* A formula's fields. `lo` and `hi` are words, the ends of its interval. A field that the kind has not is 0 in an answer, and so
+   is each word past the last; the record writer ignores them.
+
+   kind          p                            q                     mode    words, in stored order
+   polynomial    coefficients, 1 to 16        -                     -       c0, c1, ..., lowest power first
+   rational      numerator's, 1 to 12         divisor's, 1 to 12    -       the numerator's p, then the divisor's q
+   fraction      depth, 1 to 12               -                     0..2    b0, a1, b1, a2, b2, ...: 2 p + 1 of them
+   root          -                            -                     -       none */
+typedef struct {
+    uint16_t kind, number;
+    int32_t lo, hi;
+    uint16_t p, q, mode;
+    int32_t words[32];
+} vp_fields;
+
+/* A sheet's formula count. */
+typedef struct {
+    uint32_t refused;
+    uint64_t place;
+    uint16_t count;
+} vp_counted;
+
+/* The formula of a number. */
+typedef struct {
+    uint32_t refused;
+    uint64_t place;
+    vp_fields fields;
+} vp_found;
+
+/* A formula's answer, a word. */
+typedef struct {
+    uint32_t refused;
+    uint64_t place;
+    int32_t word;
+} vp_worked;
+
+/* A formula's answer as a double: exactly the answer word divided by 2^24; zero is plus zero. */
+typedef struct {
+    uint32_t refused;
+    uint64_t place;
+    double value;
+} vp_shown;
+
+/* A formula's interval as two doubles, low end and high end, each exactly its word divided by 2^24. */
+typedef struct {
+    uint32_t refused;
+    uint64_t place;
+    double low, high;
+} vp_ends;
+
+/* How many bytes a writer has written. */
+typedef struct {
+    uint32_t refused;
+    uint64_t place;
+    uint64_t length;
+} vp_written;
+
+/* How many formulas the sheet has. Refusals 1 to 9. */
+vp_counted vp_count(const uint8_t *sheet, size_t length);
+
+/* The sheet's formula of that number. Refusals 1 to 9, then 11. */
+vp_found vp_formula(const uint8_t *sheet, size_t length, uint16_t number);
+
+/* What the sheet's formula of that number answers at `argument`, a word: the word that the rule on paper gives, step by step,
+   each product and quotient rounded to the nearest whole number, a tie going upward. Refusals 1 to 9, then 11, 10. */
+vp_worked vp_evaluate(const uint8_t *sheet, size_t length, uint16_t number, int32_t argument);
+
+/* The same for a double. The argument's exact value times 2^24 is rounded as a product is; where the rounded value is no word
+   or lies outside the interval, 10. Refusals 1 to 9, then 11, 13, 10. */
+vp_shown vp_evaluate_double(const uint8_t *sheet, size_t length, uint16_t number, double argument);
+
+/* The interval of the sheet's formula of that number. Refusals 1 to 9, then 11. */
+vp_ends vp_interval(const uint8_t *sheet, size_t length, uint16_t number);
+
+/* Writes a formula record to the start of `out`, which has `room` bytes; 120 are enough for any. Bytes beyond the written ones
+   stay. Refusals 3; 2; 6; 7 or 8; then 12, all at place 0. */
+vp_written vp_write_record(vp_fields fields, uint8_t *out, size_t room);
+
+/* Writes a sheet to the start of `out`, which has `room` bytes: a start record, the run of formula records, and an end record,
+   run_length + 16 bytes in all. Bytes beyond these stay. An empty run is refused by 4 at place 0. Otherwise the run is checked
+   record after record, in the reader's order: a record that breaks off gives 1, a start or end record 3, a 65th record 4 at its
+   own place. Then comes 12. */
+vp_written vp_write_sheet(const uint8_t *run, size_t run_length, uint8_t *out, size_t room);
+
+#ifdef __cplusplus
+}
+#endif
+
+#endif

@@ -1,0 +1,278 @@
+/* Puts the paper's hand-checked rows that are not proved, and every vector of a file (oracle/README.md has its layout), to the
+   library through its C interface, and compares the answers. For each group it prints how many agree; a disagreement is
+   printed with its vector. The exit status is 0 only if all agree and no group is empty. */
+#include <stdint.h>
+#include <stdio.h>
+#include <stdlib.h>
+#include <string.h>
+#include "valvepigeon.h"
+
+enum { BY_HAND, COUNT, FORMULA, EVALUATE, DOUBLE, INTERVAL, RECORD, SHEET, GROUPS };
+enum { FIELDS = 146, WORDS = 32, GUARD = 64, MOST_ROOM = 65535 };
+
+static const char *const names[GROUPS] = {"by hand", "count", "formula", "evaluate", "double", "interval", "record", "sheet"};
+static const unsigned least[GROUPS] = {0, 0, 2, 6, 10, 2, FIELDS + 2, 2};     /* bytes of a question */
+static unsigned long asked[GROUPS], agreed[GROUPS];
+
+static uint64_t get(const uint8_t *at, int size) {
+    uint64_t value = 0;
+    for (int i = size; i-- > 0;) value = value << 8 | at[i];
+    return value;
+}
+
+static double get_double(const uint8_t *at) {
+    uint64_t pattern = get(at, 8);
+    double x;
+    memcpy(&x, &pattern, 8);
+    return x;
+}
+
+static vp_fields get_fields(const uint8_t *at) {
+    vp_fields f;
+    f.kind = (uint16_t)get(at, 2);
+    f.number = (uint16_t)get(at + 2, 2);
+    f.lo = (int32_t)get(at + 4, 4);
+    f.hi = (int32_t)get(at + 8, 4);
+    f.p = (uint16_t)get(at + 12, 2);
+    f.q = (uint16_t)get(at + 14, 2);
+    f.mode = (uint16_t)get(at + 16, 2);
+    for (int i = 0; i < WORDS; i++) f.words[i] = (int32_t)get(at + 18 + 4 * i, 4);
+    return f;
+}
+
+/* ---- the answer, laid out as the vectors have it */
+static uint8_t got[1 + 4 + 4 + MOST_ROOM];
+static size_t got_length;
+
+/* A number that does not fit becomes the largest that does, and so disagrees. */
+static void put(uint64_t value, int size) {
+    uint64_t most = size == 8 ? UINT64_MAX : ((uint64_t)1 << 8 * size) - 1;
+    if (value > most) value = most;
+    for (int i = 0; i < size; i++) got[got_length++] = (uint8_t)(value >> 8 * i);
+}
+
+static void put_head(uint32_t refused, uint64_t place) {
+    put(refused, 1);
+    put(place, 4);
+}
+
+static void put_double(double x) {
+    uint64_t pattern;
+    memcpy(&pattern, &x, 8);
+    put(pattern, 8);
+}
+
+static void put_fields(const vp_fields *f) {
+    put(f->kind, 2);
+    put(f->number, 2);
+    put((uint32_t)f->lo, 4);
+    put((uint32_t)f->hi, 4);
+    put(f->p, 2);
+    put(f->q, 2);
+    put(f->mode, 2);
+    for (int i = 0; i < WORDS; i++) put((uint32_t)f->words[i], 4);
+}
+
+/* ---- the buffer that is lent to a writer, between two guards that it may not touch */
+static uint8_t lent[GUARD + MOST_ROOM + GUARD];
+static uint8_t *const out = lent + GUARD;
+static int strayed;
+
+/* Byte i of the buffer, from -GUARD on, beforehand. */
+static uint8_t beforehand(long i) { return (uint8_t)(7 * (i + 256) + 13); }
+
+static void fill(void) {
+    for (long i = -GUARD; i < MOST_ROOM + GUARD; i++) out[i] = beforehand(i);
+}
+
+static void put_written(vp_written r, size_t room) {
+    put_head(r.refused, r.place);
+    put(r.length, 4);
+    memcpy(got + got_length, out, room);
+    got_length += room;
+    for (long i = -GUARD; i < 0; i++) strayed |= out[i] != beforehand(i);
+    for (long i = (long)room; i < MOST_ROOM + GUARD; i++) strayed |= out[i] != beforehand(i);
+}
+
+/* ---- the seven questions */
+static void answer_reader(int group, const uint8_t *q, size_t n) {
+    if (group == COUNT) {
+        vp_counted r = vp_count(q, n);
+        put_head(r.refused, r.place);
+        put(r.count, 2);
+    } else if (group == FORMULA) {
+        vp_found r = vp_formula(q + 2, n - 2, (uint16_t)get(q, 2));
+        put_head(r.refused, r.place);
+        put_fields(&r.fields);
+    } else {
+        vp_ends r = vp_interval(q + 2, n - 2, (uint16_t)get(q, 2));
+        put_head(r.refused, r.place);
+        put_double(r.low);
+        put_double(r.high);
+    }
+}
+
+static void answer_board(int group, const uint8_t *q, size_t n) {
+    if (group == EVALUATE) {
+        vp_worked r = vp_evaluate(q + 6, n - 6, (uint16_t)get(q, 2), (int32_t)get(q + 2, 4));
+        put_head(r.refused, r.place);
+        put((uint32_t)r.word, 4);
+    } else {
+        vp_shown r = vp_evaluate_double(q + 10, n - 10, (uint16_t)get(q, 2), get_double(q + 2));
+        put_head(r.refused, r.place);
+        put_double(r.value);
+    }
+}
+
+static void answer_writer(int group, const uint8_t *q, size_t n) {
+    fill();
+    if (group == RECORD) {
+        size_t room = get(q + FIELDS, 2);
+        put_written(vp_write_record(get_fields(q), out, room), room);
+    } else {
+        size_t room = get(q, 2);
+        put_written(vp_write_sheet(q + 2, n - 2, out, room), room);
+    }
+}
+
+static void answer(int question, const uint8_t *q, size_t n) {
+    got_length = 0;
+    strayed = 0;
+    if (question == COUNT || question == FORMULA || question == INTERVAL) answer_reader(question, q, n);
+    else if (question == EVALUATE || question == DOUBLE) answer_board(question, q, n);
+    else answer_writer(question, q, n);
+}
+
+/* ---- comparing */
+static void hex(const char *what, const uint8_t *at, size_t length) {
+    printf("  %s ", what);
+    for (size_t i = 0; i < length; i++) printf("%02x", at[i]);
+    putchar('\n');
+}
+
+/* Puts a question and compares the answer's bytes; `number` is its place among the group's. */
+static void compare(int group, unsigned long number, int question, const uint8_t *q, size_t n, const uint8_t *expected, size_t length) {
+    asked[group]++;
+    answer(question, q, n);
+    if (!strayed && got_length == length && memcmp(got, expected, length) == 0) {
+        agreed[group]++;
+        return;
+    }
+    printf("%s %lu disagrees, question %d (%s)%s\n", group == BY_HAND ? "row" : "vector", number, question, names[question],
+           strayed ? ": it wrote outside its buffer" : "");
+    hex("asked   ", q, n);
+    hex("expected", expected, length);
+    hex("got     ", got, got_length);
+}
+
+/* ---- the paper's rows, as vectors in hexadecimal */
+static uint8_t row_question[256], row_answer[256];
+
+static size_t from_hex(uint8_t *to, const char *text) {
+    size_t n = 0;
+    for (; *text; text++) {
+        if (*text == ' ') continue;
+        int digit = *text <= '9' ? *text - '0' : *text - 'a' + 10;
+        if (n % 2 == 0) to[n / 2] = (uint8_t)(digit << 4);
+        else to[n / 2] |= (uint8_t)digit;
+        n++;
+    }
+    return n / 2;
+}
+
+#define START "08000000 0100 0100 "
+#define END "08000000 ffff 0100"
+#define ROOT "10000000 1300 0100 00000000 00000002 "
+/* 120 + 60x + 12x^2 + x^3 over its mirror on [-1, 1] */
+#define CUBIC_WORDS "00000078 0000003c 0000000c 00000001 00000078 000000c4 0000000c 000000ff "
+#define CUBIC "34000000 1100 0100 000000ff 00000001 0400 0400 " CUBIC_WORDS
+#define ACCEPTED "00 00000000 "
+#define FOUR_ZEROS "00000000 00000000 00000000 00000000 "
+#define ZEROS_24 FOUR_ZEROS FOUR_ZEROS FOUR_ZEROS FOUR_ZEROS FOUR_ZEROS FOUR_ZEROS
+#define ZEROS_32 ZEROS_24 FOUR_ZEROS FOUR_ZEROS
+#define NO_FIELDS "0000 0000 00000000 00000000 0000 0000 0000 " ZEROS_32
+
+static const struct { int question; const char *asked, *answered; } rows[] = {
+    {COUNT, START CUBIC END, "07 08000000 0000"},
+    {EVALUATE, "0100 00000000 " START CUBIC END, "07 08000000 00000000"},
+    {RECORD, "1100 0100 000000ff 00000001 0400 0400 0000 " CUBIC_WORDS ZEROS_24 "0000", "07 00000000 00000000"},
+    {SHEET, "0000 " CUBIC, "07 08000000 00000000"},
+    {COUNT, "", "01 00000000 0000"},
+    {FORMULA, "0100", "01 00000000 " NO_FIELDS},
+    {EVALUATE, "0100 00000000", "01 00000000 00000000"},
+    {DOUBLE, "0100 0000000000000000", "01 00000000 0000000000000000"},
+    {INTERVAL, "0100", "01 00000000 0000000000000000 0000000000000000"},
+    {COUNT, START ROOT END, ACCEPTED "0100"},
+    {FORMULA, "0100 " START ROOT END, ACCEPTED "1300 0100 00000000 00000002 0000 0000 0000 " ZEROS_32},
+    {EVALUATE, "0100 00000002 " START ROOT END, ACCEPTED "e6096a01"},
+    {INTERVAL, "0100 " START ROOT END, ACCEPTED "0000000000000000 0000000000000040"},
+    {SHEET, "2000 " ROOT, ACCEPTED "20000000 " START ROOT END},
+    {COUNT, START ROOT, "01 18000000 0000"},
+    {COUNT, START ROOT "08000000 ffff 01", "01 18000000 0000"},
+    {COUNT, START ROOT "00000000 0000 0000", "02 18000000 0000"},
+};
+
+static void by_hand(void) {
+    unsigned long count = sizeof rows / sizeof rows[0];
+    for (unsigned long i = 0; i < count; i++) {
+        size_t n = from_hex(row_question, rows[i].asked), length = from_hex(row_answer, rows[i].answered);
+        compare(BY_HAND, i, rows[i].question, row_question, n, row_answer, length);
+    }
+}
+
+/* ---- the vectors */
+static uint8_t *whole_file(const char *name, size_t *length) {
+    FILE *file = fopen(name, "rb");
+    uint8_t *all = NULL;
+    size_t room = 0, n;
+    *length = 0;
+    if (!file) return NULL;
+    do {
+        if (*length == room) all = realloc(all, room += 1 << 22);
+        n = fread(all + *length, 1, room - *length, file);
+        *length += n;
+    } while (n > 0);
+    fclose(file);
+    return all;
+}
+
+/* One vector: its length, or 0 if it is broken off or no vector. */
+static size_t one_vector(unsigned long number, const uint8_t *v, size_t left) {
+    if (left < 3) return 0;
+    int question = v[0];
+    size_t n = get(v + 1, 2);
+    if (question < COUNT || question > SHEET || n < least[question] || left < 3 + n + 2) return 0;
+    size_t length = get(v + 3 + n, 2);
+    if (left < 3 + n + 2 + length) return 0;
+    compare(question, number, question, v + 3, n, v + 3 + n + 2, length);
+    return 3 + n + 2 + length;
+}
+
+static int all_vectors(const uint8_t *all, size_t length) {
+    unsigned long number = 0;
+    for (size_t at = 0; at < length; number++) {
+        size_t n = one_vector(number, all + at, length - at);
+        if (n == 0) {
+            printf("vector %lu is broken\n", number);
+            return 0;
+        }
+        at += n;
+    }
+    return 1;
+}
+
+int main(int count, char **words) {
+    size_t length = 0;
+    uint8_t *all = count == 2 ? whole_file(words[1], &length) : NULL;
+    if (!all) {
+        printf("usage: cases FILE-OF-VECTORS\n");
+        return 2;
+    }
+    by_hand();
+    int good = all_vectors(all, length);
+    for (int group = 0; group < GROUPS; group++) {
+        printf("%s: %lu of %lu agree\n", names[group], agreed[group], asked[group]);
+        good &= asked[group] > 0 && agreed[group] == asked[group];
+    }
+    return !good;
+}
