@@ -4,3 +4,4 @@ pub mod NumberLaws
 pub mod TableLaws
 pub mod Rule
 pub mod Padded
+pub mod StoreLaws

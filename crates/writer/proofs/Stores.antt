@@ -1,12 +1,12 @@
 -- Bytes of a number that stands in a list, and runs of stores.
 use mathlib.Core.Path.{_≡_, _∙_, refl}
-use mathlib.Core.List.{List, [], _∷_, _++_}
-use Prim.Native.Nat.{ℕ, suc, _+_, _/_, _%_, _≤_, _<_}
-use native.Mathlib.Nat.{add-zero, zero-add}
+use mathlib.Core.List.{List, _++_}
+use Prim.Native.Nat.{ℕ, _+_, _/_, _%_, _<_}
 use native.Mathlib.Omega.{arith}
-use lib.ListN.{length, getD, drop, set}
-use lib.Seq.{sets, sets-eq}
+use lib.ListN.{length, getD}
+use lib.Seq.{sets}
 use Rattle.layout.specs.Numbers.{number2, number4, bytes2, bytes4}
+use Rattle.layout.proofs.StoreLaws.{sets-sets}
 
 -- ---- back to bytes
 
@@ -38,16 +38,6 @@ pub length-bytes4 : (n : ℕ) → length (bytes4 n) ≡ 4
 unfolding bytes4
 length-bytes4 n = refl
 
-pub sets-sets : (a l b : List ℕ) (i : ℕ) → sets (sets l i a) (i + length a) b ≡ sets l i (a ++ b)
-sets-sets [] l b i = rw (add-zero i)
-sets-sets (x ∷ a) l b i =
-    let e : i + suc (length a) ≡ suc i + length a = omega arith in
-    rw e (sets-sets a (set l i x) b (suc i))
-
 -- a run behind a run
 pub next : {d e : List ℕ} (l a b : List ℕ) (i n : ℕ) → d ≡ sets l i a → n ≡ i + length a → e ≡ sets d n b → e ≡ sets l i (a ++ b)
 next l a b i n p q r = r ∙ rw (p, q) (sets-sets a l b i)
-
--- a run at the front
-pub sets-front : (l a : List ℕ) → length a ≤ length l → sets l 0 a ≡ a ++ drop (length a) l
-sets-front l a h = rw (sets-eq a l 0 (omega arith), zero-add (length a))

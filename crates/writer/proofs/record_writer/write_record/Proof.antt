@@ -4,7 +4,7 @@ use native.Mathlib.Omega.{arith}
 use lib.ListN.{length}
 use denote.Ref.{now}
 use Rattle.layout.specs.Fields.{lengthBy}
-use Rattle.writer.proofs.Stores.{sets-front}
+use Rattle.layout.proofs.StoreLaws.{sets-front}
 use Rattle.records.proofs.Chain.{halts, goes}
 use Rattle.writer.specs.Answers.{refusedBy}
 use Rattle.writer.specs.Kinds.{plainShape, plainBy, plain, rowBy}

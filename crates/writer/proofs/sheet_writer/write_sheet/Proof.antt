@@ -3,7 +3,7 @@ use mathlib.Core.Path.{_∙_, refl, sym}
 use native.Mathlib.Omega.{arith}
 use borrow.Author.Tests.{eq-eqb, ne-eqb, lt-ltb, le-ltb}
 use denote.Ref.{now}
-use Rattle.writer.proofs.Stores.{sets-front}
+use Rattle.layout.proofs.StoreLaws.{sets-front}
 use Rattle.writer.specs.SheetWriter.{sheetBytes, sheetWriting}
 use Rattle.writer.proofs.SheetLaws.{length-sheet}
 use Rattle.writer.proofs.sheet_writer.write_sheet.Statement.{statement}

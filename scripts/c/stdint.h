@@ -1,6 +1,6 @@
-/* What the tests need of <stdint.h>: the kit's compiler comes without headers. */
-#ifndef TESTS_STDINT_H
-#define TESTS_STDINT_H
+/* What the tests and examples need of <stdint.h>: the kit's compiler comes without headers. */
+#ifndef KIT_STDINT_H
+#define KIT_STDINT_H
 typedef __UINT8_TYPE__ uint8_t;
 typedef __UINT16_TYPE__ uint16_t;
 typedef __UINT32_TYPE__ uint32_t;

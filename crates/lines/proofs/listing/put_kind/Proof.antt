@@ -1,0 +1,55 @@
+use borrow.Author.Needs.{needs}
+use native.Mathlib.Omega.{arith}
+use Rattle.lines.proofs.TextLaws.{nothing}
+use Rattle.lines.proofs.listing.put_kind.Statement.{statement}
+use Rattle.lines.proofs.listing.put_kind.Tie as tie
+
+returns : tie.Need-returns
+returns c =
+    let t = c .before .before in
+    (rw (t .before .before .before .enum-told .given .1) (t .put-text .ensures), omega (arith, t .put-text .ensures .end))
+
+returns-2 : tie.Need-returns-2
+returns-2 c =
+    let t = c .before .before in
+    (rw (t .before .before .before .enum-told2 .given .1) (t .put-text2 .ensures), omega (arith, t .put-text2 .ensures .end))
+
+returns-3 : tie.Need-returns-3
+returns-3 c =
+    let t = c .before .before in
+    (rw (t .before .before .before .enum-told3 .given .1) (t .put-text3 .ensures), omega (arith, t .put-text3 .ensures .end))
+
+returns-4 : tie.Need-returns-4
+returns-4 c =
+    let t = c .before .before in
+    (rw (t .before .before .before .enum-told4 .given .1) (t .put-text4 .ensures), omega (arith, t .put-text4 .ensures .end))
+
+returns-5 : tie.Need-returns-5
+returns-5 c = (rw (c .enum-told5 .given .1) (nothing _ _), omega arith)
+
+pub put-kind-spec : {M : Type 1} → statement M
+put-kind-spec =
+    tie.close
+    (tie.spec
+    (λ c. search needs)
+    (λ c. search needs)
+    (λ c κs. search needs)
+    (λ c. search needs)
+    (λ c. search needs)
+    (λ c κs. search needs)
+    (λ c. search needs)
+    (λ c. search needs)
+    (λ c κs. search needs)
+    (λ c. search needs)
+    (λ c. search needs)
+    (λ c κs. search needs)
+    (λ c. search needs)
+    (λ c. search needs)
+    returns
+    (λ c. search needs)
+    returns-2
+    (λ c. search needs)
+    returns-3
+    (λ c. search needs)
+    returns-4
+    returns-5)

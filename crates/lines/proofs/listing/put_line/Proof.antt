@@ -1,0 +1,95 @@
+use borrow.Author.Needs.{needs}
+use Prim.Native.Nat.{_≤_, _<_}
+use native.Mathlib.Omega.{arith}
+use lib.ListN.{length}
+use mir.Syntax.{w32}
+use mir.Val.{SFits}
+use mir.Facts.{toZ-ofZ}
+use Rattle.layout.specs.Fields.{formulaOf, shapeOf}
+use Rattle.lines.specs.Text.{decimal}
+use Rattle.lines.specs.Listing.{lineOf}
+use Rattle.lines.proofs.TextLaws.{behind, short}
+use Rattle.lines.proofs.listing.put_line.Statement.{statement}
+use Rattle.lines.proofs.listing.put_line.Tie as tie
+
+five : (c : tie.After-get22) → length (decimal (c .get22 .result)) ≤ 5
+five c =
+    let h : c .get22 .result < 65536 = search needs in
+    short 4 (c .get22 .result) (omega (arith, h))
+
+put-decimal-requires : tie.Need-put-decimal-requires
+put-decimal-requires c κs =
+    let s = c .before .before .before .before .before .before in
+    omega (arith, five c, s .pre .0)
+
+put-text-requires : tie.Need-put-text-requires
+put-text-requires c κs =
+    let d = c .before .before .before .before in
+    let n = d .before in
+    let s = n .before .before .before .before .before .before in
+    omega (arith, five n, d .put-decimal .ensures .end, d .put-decimal .kept .0, s .pre .0)
+
+put-kind-requires : tie.Need-put-kind-requires
+put-kind-requires c κs =
+    let t = c .before .before .before in
+    let d = t .before .before .before .before .before in
+    let n = d .before in
+    let s = n .before .before .before .before .before .before in
+    omega (arith, five n, d .put-decimal .ensures .end, d .put-decimal .kept .0, t .put-text .ensures .end, t .put-text .kept .0, s .pre .0)
+
+put-interval-requires : tie.Need-put-interval-requires
+put-interval-requires c κs =
+    let k = c .before .before .before .before .before in
+    let t = k .before .before .before .before in
+    let d = t .before .before .before .before .before in
+    let n = d .before in
+    let s = n .before .before .before .before .before .before in
+    omega (
+      arith,
+      five n,
+      d .put-decimal .ensures .end,
+      d .put-decimal .kept .0,
+      t .put-text .ensures .end,
+      t .put-text .kept .0,
+      k .put-kind .ensures .1,
+      k .put-kind .kept .0,
+      s .pre .0,
+    )
+
+returns : tie.Need-returns
+unfolding lineOf formulaOf shapeOf
+returns c =
+    let i = c .before .before in
+    let hi = i .before in
+    let lo = hi .before in
+    let k = lo .before .before .before .before in
+    let t = k .before .before .before .before in
+    let d = t .before .before .before .before .before in
+    let n = d .before in
+    let row = n .before .before in
+    let kind = rw (row .row-of .ensures, row .before .get2 .ensures) at (k .put-kind .ensures .0) in
+    let number = rw (n .get22 .ensures) at (d .put-decimal .ensures) in
+    let f : SFits w32 (lo .get-word .result) = record { sfits = lo .get-word .ok } in
+    let g : SFits w32 (hi .get-word2 .result) = record { sfits = hi .get-word2 .ok } in
+    let ends = rw (toZ-ofZ f, toZ-ofZ g, lo .get-word .ensures, hi .get-word2 .ensures) at (i .put-interval .ensures .0) in (
+      behind (behind (behind number (t .put-text .ensures)) kind) ends,
+      omega (arith, five n, d .put-decimal .ensures .end, t .put-text .ensures .end, k .put-kind .ensures .1, i .put-interval .ensures .1),
+    )
+
+pub put-line-spec : {M : Type 1} → statement M
+put-line-spec =
+    tie.close
+    (tie.spec
+    (λ c κs. search needs)
+    (λ c κs. search needs)
+    (λ c κs. search needs)
+    (λ c. search needs)
+    put-decimal-requires
+    (λ c. search needs)
+    put-text-requires
+    put-kind-requires
+    (λ c κs. search needs)
+    (λ c κs. search needs)
+    put-interval-requires
+    (λ c. search needs)
+    returns)

@@ -1,0 +1,67 @@
+use borrow.Author.Needs.{needs}
+use mathlib.Core.Path.{_≡_}
+use Prim.Native.Nat.{_≤_, _<_}
+use native.Mathlib.Omega.{arith}
+use lib.IntN.{natAbs}
+use lib.ListN.{length}
+use mir.Facts.{toZ-ofZ}
+use Rattle.lines.specs.Text.{decimal}
+use Rattle.lines.proofs.TextLaws.{behind, short, negative, not-negative}
+use Rattle.lines.proofs.text.put_signed.Statement.{statement}
+use Rattle.lines.proofs.text.put_signed.Tie as tie
+
+module _ (c : tie.After-magnitude) where
+  size : c .magnitude .result ≡ natAbs (c .before .before .args .x)
+  size = rw (toZ-ofZ (c .before .before .fits .x)) at (c .magnitude .ensures)
+
+  ten : length (decimal (c .magnitude .result)) ≤ 10
+  ten =
+      let h : c .magnitude .result < 4294967296 = search needs in
+      short 9 (c .magnitude .result) (omega (arith, h))
+
+put-decimal-requires : tie.Need-put-decimal-requires
+put-decimal-requires c κs =
+    let t = c .before .before .before in
+    let m = t .before .before .before .before in
+    omega (arith, ten m, t .put-text .ensures .end, t .put-text .kept .0, m .before .before .pre)
+
+returns : tie.Need-returns
+returns c =
+    let d = c .before .before in
+    let t = d .before .before .before .before in
+    let i = t .before .before .before in
+    let m = i .before in
+    let s = m .before .before in (
+      rw (negative (s .args .x) (rw (toZ-ofZ (s .fits .x)) at (i .if1 .taken)), ← size m) (behind (t .put-text .ensures) (d .put-decimal .ensures)),
+      omega (arith, ten m, t .put-text .ensures .end, d .put-decimal .ensures .end),
+    )
+
+put-decimal-requires-2 : tie.Need-put-decimal-requires-2
+put-decimal-requires-2 c κs =
+    let m = c .before .before in
+    omega (arith, ten m, m .before .before .pre)
+
+returns-2 : tie.Need-returns-2
+returns-2 c =
+    let d = c .before .before in
+    let i = d .before .before in
+    let m = i .before in
+    let s = m .before .before in (
+      rw (not-negative (s .args .x) (rw (toZ-ofZ (s .fits .x)) at (i .if1 .left)), ← size m) (d .put-decimal2 .ensures),
+      omega (arith, ten m, d .put-decimal2 .ensures .end),
+    )
+
+pub put-signed-spec : {M : Type 1} → statement M
+put-signed-spec =
+    tie.close
+    (tie.spec
+    (λ c κs. search needs)
+    (λ c. search needs)
+    (λ c. search needs)
+    (λ c κs. search needs)
+    put-decimal-requires
+    (λ c. search needs)
+    returns
+    put-decimal-requires-2
+    (λ c. search needs)
+    returns-2)

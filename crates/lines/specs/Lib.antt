@@ -1,0 +1,3 @@
+-- Text, and the listing of a sheet.
+pub mod Text
+pub mod Listing

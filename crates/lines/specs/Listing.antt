@@ -1,0 +1,84 @@
+-- The listing of a sheet: `too long`, or `refused` with number and place, or the formula count and a line for each formula.
+use Prim.Native.Nat.{ℕ, zero, suc, _+_}
+use mathlib.Core.Path.{_≡_, refl}
+use mathlib.Core.List.{List, [], _∷_, _++_}
+use mathlib.Core.Bool.{cond}
+use lib.Dec.{ltb}
+use lib.IntN.{ℤ, pos, negsuc}
+use lib.ListN.{length, take, replicate}
+use Rattle.formula.specs.declared.Kind.{Kind}
+use Rattle.formula.specs.declared.Kind.the-variants.{Polynomial, Rational, Fraction, Root, NoFormula}
+use Rattle.formula.specs.declared.Formula.{Formula}
+use Rattle.layout.specs.Numbers.{number2, number4}
+use Rattle.layout.specs.Table.{rows, firstRow, rowOf}
+use Rattle.layout.specs.Fields.{firstCount, fieldOf, shape, shapeOf, wordsBy, words, padded, formula, formulaOf}
+use Rattle.records.specs.Faults.{frameFault, bytesAt, rowFor, outside, countFault, sizeFault, lengthFault, startFault, orderFault, endFault, intervalFault, wordsFault, valueFault, innerFault, recordFault}
+use Rattle.records.specs.Walking.{foundBy, ending, recordStep, stepOf, walkFrom, walkOf}
+use Rattle.records.specs.declared.refusal.Refusal.{Refusal}
+use Rattle.sheet.specs.declared.answers.FormulaCount.{FormulaCount}
+use Rattle.sheet.specs.declared.answers.FormulaCount.the-variants.{Count, Refused}
+use Rattle.sheet.specs.Reader.{formulaCount, formulaAt}
+use Rattle.lines.specs.Text.{text, digitsBy, decimal, signed}
+
+abbrev pub kindName : Kind → List ℕ
+kindName Polynomial = text "polynomial"
+kindName Rational = text "rational"
+kindName Fraction = text "fraction"
+kindName Root = text "root"
+kindName NoFormula = []
+
+-- lo and hi as signed decimal words, and the line's end
+abbrev pub intervalText : ℤ → ℤ → List ℕ
+intervalText lo hi = text " " ++ signed lo ++ text " " ++ signed hi ++ text "\n"
+
+-- number, kind name, lo and hi
+unfoldable pub lineOf : Formula → List ℕ
+lineOf f = decimal (f .number) ++ text " " ++ kindName (f .shape .kind) ++ intervalText (f .lo) (f .hi)
+
+-- in sheet order: the line of the formula at a place, and on by its record's length
+unfoldable pub linesFrom : ℕ → List ℕ → ℕ → List ℕ
+linesFrom zero s place = []
+linesFrom (suc n) s place = lineOf (formulaAt s place) ++ linesFrom n s (place + number4 s place)
+
+unfoldable pub countLine : ℕ → List ℕ
+countLine c = text "formulas " ++ decimal c ++ text "\n"
+
+unfoldable pub refusalLine : Refusal → List ℕ
+refusalLine r = text "refused " ++ decimal (r .number) ++ text " at " ++ decimal (r .place) ++ text "\n"
+
+-- the first formula stands behind the start record
+abbrev pub listingBy : List ℕ → FormulaCount → List ℕ
+listingBy s (Refused r) = refusalLine r
+listingBy s (Count c) = countLine c ++ linesFrom c s (number4 s 0)
+
+unfoldable pub listing : List ℕ → List ℕ
+listing s = cond (ltb 8192 (length s)) (text "too long\n") (listingBy s (formulaCount s))
+
+-- the lines of records, each from its own bytes
+abbrev pub linesOf : List (List ℕ) → List ℕ
+linesOf [] = []
+linesOf (b ∷ bs) = lineOf (formulaOf (rowFor b) b) ++ linesOf bs
+
+-- ---- worked examples
+negative-end : lineOf (formula 7 (shape Polynomial 1 0 0) (negsuc 33554431) (pos 33554432) (padded [])) ≡ text "7 polynomial -33554432 33554432\n"
+unfolding lineOf digitsBy decimal
+negative-end = refl
+
+-- the paper's own sheet, without its end record and with it
+abbrev front : List ℕ
+front = 8 ∷ 0 ∷ 0 ∷ 0 ∷ 1 ∷ 0 ∷ 1 ∷ 0 ∷ 0x10 ∷ 0 ∷ 0 ∷ 0 ∷ 0x13 ∷ 0 ∷ 1 ∷ 0 ∷ 0 ∷ 0 ∷ 0 ∷ 0 ∷ 0 ∷ 0 ∷ 0 ∷ 2 ∷ []
+
+abbrev paperSheet : List ℕ
+paperSheet = front ++ (8 ∷ 0 ∷ 0 ∷ 0 ∷ 0xff ∷ 0xff ∷ 1 ∷ 0 ∷ [])
+
+-- as it stands; cut to 24 or 31 bytes; with the last 8 bytes zero; empty input; zeros up to the longest input, and one more
+paper-listings :
+    (listing paperSheet ≡ text "formulas 1\n1 root 0 33554432\n")
+    × (listing (take 24 paperSheet) ≡ text "refused 1 at 24\n")
+    × (listing (take 31 paperSheet) ≡ text "refused 1 at 24\n")
+    × (listing (front ++ replicate 8 0) ≡ text "refused 2 at 24\n")
+    × (listing [] ≡ text "refused 1 at 0\n")
+    × (listing (replicate 8192 0) ≡ text "refused 2 at 0\n")
+    × (listing (replicate 8193 0) ≡ text "too long\n")
+unfolding listing countLine refusalLine linesFrom lineOf digitsBy decimal formulaCount walkOf walkFrom stepOf recordStep ending foundBy frameFault bytesAt recordFault lengthFault sizeFault countFault outside startFault orderFault endFault intervalFault wordsFault valueFault innerFault number2 number4 rows firstRow rowOf firstCount fieldOf shapeOf wordsBy words padded formulaOf
+paper-listings = (refl, refl, refl, refl, refl, refl, refl)

@@ -1,0 +1,3 @@
+// The listing of a sheet, as text.
+pub mod listing;
+mod text;

@@ -1,0 +1,6 @@
+/* What the tests and examples need of <stdlib.h>: the kit's compiler comes without headers. */
+#ifndef KIT_STDLIB_H
+#define KIT_STDLIB_H
+#include <stddef.h>
+void *realloc(void *, size_t);
+#endif

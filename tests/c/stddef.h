@@ -1,7 +1,0 @@
-/* What the tests need of <stddef.h>: the kit's compiler comes without headers. */
-#ifndef TESTS_STDDEF_H
-#define TESTS_STDDEF_H
-typedef __SIZE_TYPE__ size_t;
-#define NULL ((void *)0)
-#define offsetof(type, member) __builtin_offsetof(type, member)
-#endif

@@ -1,0 +1,37 @@
+#!/usr/bin/env bash
+# The built listing program: the paper's own sheet and what becomes of it, and the cases of tests/listings.py.
+set -u
+cd "$(dirname "$0")/.." || exit 2
+. tests/lib.sh
+room=$(mktemp -d)
+trap 'rm -rf "$room"' EXIT
+
+prints() { # NAME EXPECTED-FILE; the input is standard input
+    run_x86 target/bin/listing >"$room/got"
+    local status=$?
+    if [ "$status" -eq 0 ] && cmp -s "$2" "$room/got"; then
+        pass
+    else
+        fail "listing, $1: status $status, printed $(head -c 200 "$room/got")"
+    fi
+}
+
+says() { # NAME TEXT; the input is standard input
+    printf '%s\n' "$2" >"$room/expected"
+    prints "$1" "$room/expected"
+}
+
+printf '\10\0\0\0\1\0\1\0\20\0\0\0\23\0\1\0\0\0\0\0\0\0\0\2\10\0\0\0\377\377\1\0' >"$room/paper"
+says "the paper's sheet" $'formulas 1\n1 root 0 33554432' <"$room/paper"
+says 'cut to 24' 'refused 1 at 24' < <(head -c 24 "$room/paper")
+says 'cut to 31' 'refused 1 at 24' < <(head -c 31 "$room/paper")
+says 'last 8 bytes zero' 'refused 2 at 24' < <(head -c 24 "$room/paper"; head -c 8 /dev/zero)
+says 'empty input' 'refused 1 at 0' </dev/null
+says 'a folder in place of a file' 'refused 1 at 0' <tests
+says 'a byte at a time' $'formulas 1\n1 root 0 33554432' < <(
+    for at in $(seq 1 32); do tail -c +"$at" "$room/paper" | head -c 1; sleep 0.01; done)
+
+mkdir "$room/cases"
+python3 -B tests/listings.py "$room/cases" || fail 'tests/listings.py'
+for input in "$room"/cases/*.in; do prints "$(basename "$input" .in)" "${input%.in}.out" <"$input"; done
+conclude

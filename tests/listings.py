@@ -1,0 +1,114 @@
+"""Makes inputs for the listing program, and what it has to print for each.
+
+    python3 tests/listings.py FOLDER
+
+writes NAME.in and NAME.out for each case. The listing is worked out here from
+paper 01, over the second program's reader; the program under test has no part
+in it.
+"""
+
+import sys
+from pathlib import Path
+from struct import pack
+
+ROOT = Path(__file__).resolve().parent.parent
+sys.path.append(str(ROOT / "oracle"))
+
+from formulas import FRACTION, POLYNOMIAL, RATIONAL, ROOT as SQUARE_ROOT
+from number import M, ONE
+from refusal import Refused
+from sheet import read
+
+MOST_BYTES = 8192
+NAMES = {POLYNOMIAL: "polynomial", RATIONAL: "rational",
+         FRACTION: "fraction", SQUARE_ROOT: "root"}
+
+
+def listing(content):
+    if len(content) > MOST_BYTES:
+        return "too long\n"
+    try:
+        formulas = read(content)
+    except Refused as refusal:
+        return f"refused {refusal.number} at {refusal.place}\n"
+    lines = [f"formulas {len(formulas)}\n"]
+    for f in formulas:
+        lines.append(f"{f.number} {NAMES[f.kind]} {f.lo} {f.hi}\n")
+    return "".join(lines)
+
+
+def record(kind, number, lo, hi, rest=b""):
+    return pack("<IHHii", 16 + len(rest), kind, number, lo, hi) + rest
+
+
+def start(count):
+    return pack("<IHH", 8, 0x0001, count)
+
+
+def end(count):
+    return pack("<IHH", 8, 0xFFFF, count)
+
+
+def sheet(*records):
+    return start(len(records)) + b"".join(records) + end(len(records))
+
+
+def polynomial(number, lo, hi, *words):
+    return record(POLYNOMIAL, number, lo, hi, pack(f"<{len(words)}i", *words))
+
+
+def root(number, lo, hi):
+    return record(SQUARE_ROOT, number, lo, hi)
+
+
+def rational(number, lo, hi, above, below):
+    counts = pack("<HH", len(above), len(below))
+    words = pack(f"<{len(above) + len(below)}i", *above, *below)
+    return record(RATIONAL, number, lo, hi, counts + words)
+
+
+# One input for each refusal 1 to 9; the number is checked when it is made.
+REFUSED = {
+    1: start(1) + root(1, 0, 1)[:15],
+    2: start(1) + root(1, 0, 1) + b"\0" * 8,
+    3: start(1) + start(1) + end(1),
+    4: start(2) + root(1, 0, 1) + end(2),
+    5: sheet(root(7, 0, 1), root(7, 0, 1)),
+    6: sheet(root(1, -1, 1)),
+    7: sheet(polynomial(1, 0, 1, M, 1)),
+    8: sheet(rational(1, -ONE, ONE, [ONE], [ONE, ONE])),
+    9: sheet(root(1, 0, 1)) + b"\0",
+}
+
+EXTREMES = sheet(
+    polynomial(0, -M, M, 0), polynomial(1, -M, -M, -M), root(2, M, M),
+    polynomial(9, -1, 0, 1), polynomial(10, -10, 10, 0),
+    root(65534, 0, 0), root(65535, 0, M))
+
+
+def cases():
+    for number, content in REFUSED.items():
+        assert listing(content).startswith(f"refused {number} at "), number
+        yield f"refused-{number}", content
+    yield "extremes", EXTREMES
+    full = sheet(*(root(n, 0, n) for n in range(64)))
+    yield "sixty-four", full
+    yield "sixty-five", start(64) + full[8:-8] + root(64, 0, 0) + end(64)
+    yield "exactly-8192", full + bytes(MOST_BYTES - len(full))
+    yield "zeros-8192", bytes(MOST_BYTES)
+    yield "8193", full + bytes(MOST_BYTES + 1 - len(full))
+    yield "long", bytes(100000)
+    for path in sorted((ROOT / "sheets").glob("*.sheet")):
+        content = path.read_bytes()
+        assert listing(content).startswith("formulas "), path.name
+        yield path.stem, content
+
+
+def main():
+    folder = Path(sys.argv[1])
+    for name, content in cases():
+        (folder / f"{name}.in").write_bytes(content)
+        (folder / f"{name}.out").write_text(listing(content))
+
+
+main()
