@@ -1,17 +1,18 @@
 -- What a record without fault says: its frame, its length, its class.
-use mathlib.Core.Path.{_≡_, subst}
+use mathlib.Core.Path.{_≡_, refl, subst}
 use mathlib.Core.List.{List}
 use Prim.Native.Nat.{ℕ, _-_, _+_, _≤_}
 use native.Mathlib.Omega.{arith}
 use lib.Dec.{ltb}
 use lib.ListN.{length, take, drop, length-take, length-drop}
-use borrow.Author.Tests.{eq-eqb, ltb-false}
+use borrow.Author.Tests.{eq-eqb, ne-eqb, ltb-false}
 use Rattle.layout.specs.Numbers.{number4}
 use Rattle.layout.specs.Fields.{formulaNumber, formulaOf}
 use Rattle.layout.specs.declared.table.Class.{Class}
 use Rattle.layout.specs.declared.table.Class.the-variants.{FormulaRecord}
 use Rattle.layout.specs.declared.table.Row.{Row}
-use Rattle.records.specs.Faults.{frameFault, bytesAt, placeFault, lengthFault, orderFault, innerFault, classFault, recordFault}
+use Rattle.records.specs.Faults.{frameFault, bytesAt, placeFault, lengthFault, orderFault, innerFault, formulaFault, classFault, recordFault}
+use Rattle.records.specs.Guard.{orElse}
 use Rattle.records.specs.declared.walking.Walk.{Walk}
 use Rattle.records.proofs.Chain.{passed, neither}
 
@@ -52,6 +53,11 @@ clear r b w e =
     let p = neither (placeFault (r .class) (w .at)) _ e in
     let l = neither (lengthFault r b) _ (p .1) in
     record { place = p .0; size = l .0; content = l .1 }
+
+-- a formula behind a start is in its place
+pub formula-placed : (r : Row) (b : List ℕ) (w : Walk) → r .class ≡ FormulaRecord → 8 ≤ w .at → orElse (lengthFault r b) (formulaFault r b w) ≡ recordFault r b w
+unfolding recordFault
+formula-placed r b w c h = rw (c, ne-eqb (w .at) 0 (λ z. omega arith)) refl
 
 -- a formula without fault is not one too many
 pub not-full : (r : Row) (b : List ℕ) (w : Walk) → recordFault r b w ≡ 0 → r .class ≡ FormulaRecord → w .seen ≡ w .count → ⊥

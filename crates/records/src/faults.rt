@@ -93,7 +93,7 @@ pub fn count_fault(row: Row, p: u16, q: u16) -> u8
     outside(second, q, 2)
 }
 
-fn size_fault(row: Row, shape: Shape, n: usize) -> u8
+pub fn size_fault(row: Row, shape: Shape, n: usize) -> u8
     requires { ⌜ Ruled row ⌝ }
     ensures { λ r. ⌜ r ≡ sizeFault row shape n ⌝ }
 {
@@ -119,7 +119,7 @@ fn start_fault(count: u16) -> u8
     0
 }
 
-fn order_fault(w: Walk, number: u16) -> u8
+pub fn order_fault(w: Walk, number: u16) -> u8
     ensures { λ r. ⌜ r ≡ orderFault w number ⌝ }
 {
     if w.seen == w.count {
@@ -256,7 +256,7 @@ pub fn admission_fault(shape: Shape, lo: i32, hi: i32, words: &[i32]) -> u8
 }
 
 // The words are read once, into an array that admission is lent.
-fn inner_fault(b: &[u8], row: Row, shape: Shape) -> u8
+pub fn inner_fault(b: &[u8], row: Row, shape: Shape) -> u8
     requires { ⌜ Held row (now b) × (shape ≡ shapeOf row (now b)) ⌝ }
     ensures { λ r. ⌜ r ≡ innerFault row (formulaOf row (now (b .entry))) ⌝ }
 {

@@ -2,11 +2,17 @@
 ghost use mathlib.Core.Path.{_≡_};
 ghost use Prim.Native.Nat.{_≤_};
 ghost use lib.ListN.{length};
+ghost use Rattle.layout.specs.Rule.{Ruled};
+ghost use Rattle.layout.specs.declared.table.Class.the-variants.{FormulaRecord};
+ghost use Rattle.records.specs.Guard.{orElse};
+ghost use Rattle.records.specs.Faults.{lengthFault, formulaFault};
 ghost use Rattle.records.specs.Walking.{afterFormula};
 ghost use Rattle.writer.specs.Runs.{runRecord, runRecordFault, runFault, runCount, Going};
 use crate::kinds;
+use layout::fields;
 use layout::numbers;
 use layout::table;
+use layout::table::Row;
 use records::faults;
 use records::refusal::Refusal;
 use records::walking;
@@ -16,9 +22,30 @@ use sheet::answers::FormulaCount;
 // Above every number: none is asked for.
 const NO_NUMBER: u32 = 65536;
 
+// A formula's checks in the reader's order. They are put together here, as the reader does it for itself: a function that both
+// called would be too long to stand in line, and a call for each record costs a quarter of the time.
+fn formula_fault(b: &[u8], row: Row, w: Walk) -> u8
+    requires { ⌜ Ruled row × (row .class ≡ FormulaRecord) × (length (now b) ≤ 120) ⌝ }
+    ensures { λ r. ⌜ r ≡ orElse (lengthFault row (now (b .entry))) (formulaFault row (now (b .entry)) w) ⌝ }
+{
+    if b.len() < row.head {
+        return 2;
+    }
+    let shape = fields::shape_of(b, row);
+    let f = faults::size_fault(row, shape, b.len());
+    if f != 0 {
+        return f;
+    }
+    let g = faults::order_fault(w, numbers::get2(b, 6));
+    if g != 0 {
+        return g;
+    }
+    faults::inner_fault(b, row, shape)
+}
+
 // What follows the frame.
 fn record_fault(b: &[u8], w: Walk) -> u8
-    requires { ⌜ (8 ≤ length (now b)) × (length (now b) ≤ 120) ⌝ }
+    requires { ⌜ (8 ≤ length (now b)) × (length (now b) ≤ 120) × (8 ≤ w .at) ⌝ }
     ensures { λ r. ⌜ r ≡ runRecordFault (now (b .entry)) w ⌝ }
 {
     let row = table::row_of(numbers::get2(b, 4));
@@ -27,7 +54,7 @@ fn record_fault(b: &[u8], w: Walk) -> u8
     if f != 0 {
         return f;
     }
-    faults::record_fault(b, row, w)
+    formula_fault(b, row, w)
 }
 
 fn run_fault(run: &[u8], w: Walk) -> u8

@@ -1,10 +1,13 @@
 use borrow.Author.Needs.{needs}
-use mathlib.Core.Path.{_≡_}
+use mathlib.Core.Path.{_≡_, _∙_, sym}
 use denote.Ref.{now}
+use Rattle.layout.specs.declared.table.Class.the-variants.{FormulaRecord}
 use Rattle.layout.proofs.Rule.{ruled}
 use Rattle.records.specs.Faults.{rowFor}
 use Rattle.records.proofs.Chain.{stop, pass}
+use Rattle.records.proofs.Steps.{formula-placed}
 use Rattle.writer.specs.Runs.{runRecordFault}
+use Rattle.writer.proofs.KindLaws.{formula-only}
 use Rattle.writer.proofs.runs.record_fault.Statement.{statement}
 use Rattle.writer.proofs.runs.record_fault.Tie as tie
 
@@ -15,18 +18,22 @@ returns : tie.Need-returns
 unfolding runRecordFault
 returns c = stop _ (rw (row (c .before .before)) at (c .before .only-formula .ensures)) (c .if1 .taken)
 
-record-fault-requires : tie.Need-record-fault-requires
-record-fault-requires c κs =
+class : (c : tie.Else1) → c .before .before .row-of .result .class ≡ FormulaRecord
+class c = formula-only _ (sym (c .before .only-formula .ensures) ∙ c .if1 .left)
+
+formula-fault-requires : tie.Need-formula-fault-requires
+formula-fault-requires c κs =
     let r = c .before .before in
-    let s = r .before .before .before in
-    (rw (r .row-of .ensures) (ruled _), s .pre .0, s .pre .1)
+    (rw (r .row-of .ensures) (ruled _), class c, r .before .before .before .pre .1)
 
 returns-2 : tie.Need-returns-2
 unfolding runRecordFault
 returns-2 c =
     let i = c .before in
     let r = i .before .before in
-    pass (rw (row r) at (i .before .only-formula .ensures)) (i .if1 .left) (rw (row r) at (c .record-fault .ensures))
+    let s = r .before .before .before in
+    pass (rw (row r) at (i .before .only-formula .ensures)) (i .if1 .left)
+    (rw (row r) at (c .formula-fault .ensures ∙ formula-placed (r .row-of .result) (now (s .args .b)) (s .args .w) (class i) (s .pre .2)))
 
 pub record-fault-spec : {M : Type 1} → statement M
 record-fault-spec =
@@ -36,5 +43,5 @@ record-fault-spec =
     (λ c κs. search needs)
     (λ c κs. search needs)
     returns
-    record-fault-requires
+    formula-fault-requires
     returns-2)

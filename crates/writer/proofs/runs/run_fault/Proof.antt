@@ -30,7 +30,7 @@ record-fault-requires c κs =
     let f = frame (n .before) in
     let a = n .before .before .before .before .before .args in
     let l = ap length (part-is (now (a .run)) (inRun (a .w)) (n .get4 .result) (n .get4 .ensures)) ∙ length-bytesAt _ _ f in
-    (omega (arith, l, f .least), omega (arith, l, f .most))
+    (omega (arith, l, f .least), omega (arith, l, f .most), n .before .before .before .before .before .pre .begun)
 
 returns-2 : tie.Need-returns-2
 unfolding runFault
