@@ -33,7 +33,7 @@ laid_out python python3 bindings/python/layout.py
 if command -v rustc >"$room/rustc"; then laid_out rust rust layout; else echo 'skipped: bindings/rust, no rustc is here'; fi
 
 if [ "$(uname -m)" = x86_64 ]; then
-    ./build-library >"$room/log" 2>&1 || tail -n 5 "$room/log"
+    if ./build-library >"$room/log" 2>&1; then pass; else tail -n 5 "$room/log"; fail './build-library'; fi
     if command -v cc gcc >"$room/cc"; then right bindings/python python3 bindings/python/test.py; else echo 'skipped: bindings/python, no C compiler is here'; fi
     if [ -s "$room/rustc" ]; then right bindings/rust rust test -L target/staticlib -l static=valvepigeon; fi
 else

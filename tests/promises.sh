@@ -1,10 +1,12 @@
 #!/usr/bin/env bash
 # docs/PROMISES.md cannot rot: every file that it cites exists, every name that it cites after a file stands in that file,
-# every must-fail edit that it cites exists, and every must-fail edit that exists is cited.
+# every must-fail edit that it cites exists, every must-fail edit that exists is cited, and so is every file of promises.
 # In that page a citation is `crates/..` in backquotes; names in backquotes that follow on the same line belong to it.
 set -u
 cd "$(dirname "$0")/.." || exit 2
 . tests/lib.sh
+room=$(mktemp -d)
+trap 'rm -rf "$room"' EXIT
 page=docs/PROMISES.md
 
 # FILE NAME for each citation, one a line; NAME is '-' for the file alone.
@@ -22,15 +24,28 @@ for line in open(sys.argv[1], encoding='utf-8'):
 P
 }
 
+# A name of a definition or theorem is declared in its file; anything else that is cited stands in it.
+has() { # FILE NAME
+    case $1 in
+        *.antt) grep -qP -- "^\\s*((abbrev|unfoldable|pub|record) )*\\Q$2\\E( |\$)" "$1" ;;
+        *) grep -qF -- "$2" "$1" ;;
+    esac
+}
+
+citations >"$room/cited" && [ -s "$room/cited" ] || fail "$page: no citations could be read"
 while read -r file name; do
     if [ "$name" = - ]; then
         if [ -e "$file" ]; then pass; else fail "$page cites $file, which is not there"; fi
-    elif grep -qF -- "$name" "$file" 2>/dev/null; then
+    elif [ -e "$file" ] && has "$file" "$name"; then
         pass
     else
         fail "$page cites $name of $file, which does not have it"
     fi
-done < <(citations)
+done <"$room/cited"
+
+for file in $(grep -rl '^-- Promise:' crates/*/proofs --include='*.antt'); do
+    if grep -qF -- "\`$file\`" "$page"; then pass; else fail "$file is not cited in $page"; fi
+done
 
 for edit in crates/*/must-fail/*.edit; do
     if grep -qF -- "\`$edit\`" "$page"; then pass; else fail "$edit is not cited in $page"; fi

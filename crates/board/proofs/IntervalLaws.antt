@@ -7,7 +7,7 @@ use lib.Signed.{_≤ℤ_, _<ℤ_, ltZ, clashℤ}
 use Rattle.formula.specs.declared.Formula.{Formula}
 use Rattle.formula.specs.Formula.{answerOf, Answerable}
 use Rattle.records.specs.Faults.{places}
-use Rattle.sheet.proofs.FormulasGiven.{Fit}
+use Rattle.sheet.specs.Reader.{Fit}
 use Rattle.board.specs.Board.{refused, answered, answerAt}
 use Rattle.board.specs.declared.answers.Evaluation.{Evaluation}
 
@@ -33,13 +33,18 @@ module _ (f : Formula) (x : ℤ) where
   unfolding answerAt
   below-low h = sym (ap (λ (b : Bool). cond b (refused 10) (cond (ltZ (f .hi) x) (refused 10) within)) (below h))
 
+  pub above-high : f .hi <ℤ x → refused 10 ≡ answerAt f x
+  unfolding answerAt
+  above-high h = at (ltZ x (f .lo))
+    where
+      at : (b : Bool) → refused 10 ≡ cond b (refused 10) (cond (ltZ (f .hi) x) (refused 10) within)
+      at true = refl
+      at false = sym (ap (λ (b : Bool). cond b (refused 10) within) (below h))
+
   module _ (l : f .lo ≤ℤ x) where
     past-low : answerAt f x ≡ cond (ltZ (f .hi) x) (refused 10) within
     unfolding answerAt
     past-low = ap (λ (b : Bool). cond b (refused 10) (cond (ltZ (f .hi) x) (refused 10) within)) (not-below l)
-
-    pub above-high : f .hi <ℤ x → refused 10 ≡ answerAt f x
-    above-high h = sym (past-low ∙ ap (λ (b : Bool). cond b (refused 10) within) (below h))
 
     pub inside : x ≤ℤ f .hi → within ≡ answerAt f x
     inside h = sym (past-low ∙ ap (λ (b : Bool). cond b (refused 10) within) (not-below h))

@@ -10,7 +10,7 @@ use Rattle.formula.specs.declared.Formula.{Formula}
 use Rattle.formula.specs.Formula.{answerOf}
 use Rattle.door.specs.declared.answer.Taken.{Taken}
 use Rattle.door.specs.declared.answer.Taken.the-variants.{Word, NoWord, NotFinite}
-use Rattle.door.specs.Taken.{takenOf}
+use Rattle.door.specs.Taken.{takenOf, refusalOf}
 use Rattle.door.specs.Exact.{Exactly}
 use Rattle.records.specs.Faults.{places}
 use Rattle.records.specs.Walking.{refusal}
@@ -38,6 +38,22 @@ abbrev pub wordOf : Evaluation → ℤ
 wordOf (Answered w) = w .word
 wordOf (Refused r) = pos 0
 
+abbrev pub shownNumber : Shown → ℕ
+shownNumber (Value x) = 0
+shownNumber (NotShown r) = r .number
+
+abbrev pub shownPlace : Shown → ℕ
+shownPlace (Value x) = 0
+shownPlace (NotShown r) = r .place
+
+abbrev pub intervalNumber : Interval → ℕ
+intervalNumber (Between e) = 0
+intervalNumber (NoInterval r) = r .number
+
+abbrev pub intervalPlace : Interval → ℕ
+intervalPlace (Between e) = 0
+intervalPlace (NoInterval r) = r .place
+
 -- 10 to 13 give place 0
 abbrev pub refused : ℕ → Evaluation
 refused number = Refused (refusal 0 number)
@@ -63,8 +79,8 @@ evaluated s n x = whenGiven (formulaRead s n .found) (answerAt (formulaRead s n 
 -- ---- the door for doubles. Infinite or not a number (13); the rounded value is no word, or outside the interval (10)
 abbrev pub takenBy : Formula → Taken → Evaluation
 takenBy f (Word w) = answerAt f w
-takenBy f NoWord = refused 10
-takenBy f NotFinite = refused 13
+takenBy f NoWord = refused (refusalOf NoWord)
+takenBy f NotFinite = refused (refusalOf NotFinite)
 
 abbrev pub takenAt : Formula → Float → Evaluation
 takenAt f x = takenBy f (takenOf places x)

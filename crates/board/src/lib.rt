@@ -4,8 +4,7 @@ ghost use Rattle.layout.specs.Rule.{Held};
 ghost use Rattle.layout.specs.Fields.{formulaOf};
 ghost use Rattle.records.specs.Faults.{rowFor};
 ghost use Rattle.records.specs.Sheets.{FormulaBytes};
-ghost use Rattle.sheet.specs.Reader.{formulaRead, formulaAt, Standing};
-ghost use Rattle.sheet.proofs.FormulasGiven.{Fit};
+ghost use Rattle.sheet.specs.Reader.{formulaRead, formulaAt, Fit, Standing};
 ghost use Rattle.board.specs.Board.{refused, answerAt, takenAt, evaluated, evaluatedDouble, ShownAs, IntervalAs};
 
 pub mod answers;

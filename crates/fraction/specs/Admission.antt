@@ -50,7 +50,7 @@ termBound s a b v L =
     (cond (ltb largest (natAbs b + qBound s a v L)) Beyond
     (Least (natAbs b - qBound s a v L)))
 
--- ---- worked examples: 1/(1 - x/3) up to x = 1; up to 2, where 1 - 2/3 is still apart from 0; up to 3, where it is not
+-- ---- worked examples: x/(1 - x/3) up to x = 2, where 1 - 2/3 is still apart from 0; up to 3, where it is not
 abbrev thirds : List ℤ
 thirds = pos 0 ∷ pos 16777216 ∷ pos 16777216 ∷ negsuc 16777215 ∷ pos 50331648 ∷ []
 

@@ -24,7 +24,7 @@ unfolding padded
 take-padded l = take-append-seam l _
 
 -- one word more
-padded-more : (l : List ℤ) (v : ℤ) → length l < 32 → set (padded l) (length l) v ≡ padded (l ++ (v ∷ []))
+pub padded-more : (l : List ℤ) (v : ℤ) → length l < 32 → set (padded l) (length l) v ≡ padded (l ++ (v ∷ []))
 unfolding padded
 padded-more l v h =
     let e : 32 - length l ≡ suc (31 - length l) = omega arith in

@@ -38,13 +38,13 @@ test r =
     && leb (r .base + r .p .each * r .p .most + r .q .each * r .q .most) 32))))
 
 -- two classes that are not the same
-abbrev tag : Class → ℕ
+abbrev pub tag : Class → ℕ
 tag StartRecord = 0
 tag FormulaRecord = 1
 tag EndRecord = 2
 tag Unknown = 3
 
-apart : {A : Type 0} {k l : Class} → (tag k ≡ tag l → ⊥) → k ≡ l → A
+pub apart : {A : Type 0} {k l : Class} → (tag k ≡ tag l → ⊥) → k ≡ l → A
 apart h e = absurd (h (ap tag e))
 
 -- row by row: a new kind adds its own

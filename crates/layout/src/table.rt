@@ -1,4 +1,4 @@
-// The table of record kinds, a row for each. A new kind is a new row, here and in specs/Table.antt.
+// The table of record kinds, a row for each, as specs/Table.antt has it.
 ghost use mathlib.Core.Path.{_≡_};
 ghost use Rattle.layout.specs.Table.{rowOf};
 use formula::Kind;

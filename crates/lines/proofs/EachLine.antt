@@ -5,14 +5,9 @@ use Prim.Native.Nat.{ℕ, _≤_}
 use lib.ListN.{length}
 use Rattle.records.specs.Sheets.{SheetOf}
 use Rattle.sheet.specs.declared.answers.FormulaCount.the-variants.{Count}
-use Rattle.sheet.specs.Reader.{countAnswer, noNumber, formulaCount}
-use Rattle.sheet.proofs.AcceptedShape.{walk-of}
+use Rattle.sheet.proofs.AcceptedShape.{shape-count}
 use Rattle.lines.specs.Listing.{linesOf, countLine, listing}
 use Rattle.lines.proofs.LineLaws.{sheet-lines, not-too-long}
 
-count-of-shape : (c : ℕ) (s : List ℕ) → SheetOf c s → formulaCount s ≡ Count c
-unfolding formulaCount
-count-of-shape c s h = ap countAnswer (walk-of c s h noNumber)
-
 pub each-line : (c : ℕ) (s : List ℕ) (h : SheetOf c s) → length s ≤ 8192 → listing s ≡ countLine c ++ linesOf (h .formulas)
-each-line c s h n = not-too-long s (Count c) n (count-of-shape c s h) ∙ ap (λ (t : List ℕ). countLine c ++ t) (sheet-lines c s h)
+each-line c s h n = not-too-long s (Count c) n (shape-count c s h) ∙ ap (λ (t : List ℕ). countLine c ++ t) (sheet-lines c s h)

@@ -1,7 +1,7 @@
 // What a record is refused for: each function gives the paper's number, or 0 for none.
 ghost use mathlib.Core.Path.{_≡_};
 ghost use mathlib.Core.List.{[]};
-ghost use Prim.Native.Nat.{_+_, _*_, _<_, _≤_};
+ghost use Prim.Native.Nat.{_+_, _*_, _≤_};
 ghost use lib.ListN.{length};
 ghost use Rattle.formula.specs.Formula.{Sound};
 ghost use Rattle.layout.specs.Rule.{Ruled, Bare, Held};

@@ -9,6 +9,7 @@ use borrow.Author.Tests.{le-ltb}
 use Rattle.records.specs.Walking.{walkOf}
 use Rattle.records.specs.Sheets.{SheetOf}
 use Rattle.sheet.specs.Reader.{countNumber, countValue, formulaCount, noNumber, countAnswer, Accepted}
+use Rattle.sheet.specs.declared.answers.FormulaCount.the-variants.{Count}
 use Rattle.records.specs.declared.walking.Walked.{Walked}
 use Rattle.records.specs.declared.walking.Walked.the-variants.{Whole}
 use Rattle.sheet.proofs.OneToNine.{accepted}
@@ -25,8 +26,9 @@ accepted-shape s e =
 pub walk-of : (c : ℕ) (s : List ℕ) (h : SheetOf c s) (n : ℕ) → walkOf s n ≡ Whole c (placeIn n (length (h .start)) 0 (h .formulas))
 walk-of c s h n = rw (append-nil s, le-ltb (length s) (length s + 0) (omega arith)) at (walked c s [] h n)
 
-pub shape-accepted : (c : ℕ) (s : List ℕ) → SheetOf c s → Accepted s × (countValue (formulaCount s) ≡ c)
+pub shape-count : (c : ℕ) (s : List ℕ) → SheetOf c s → formulaCount s ≡ Count c
 unfolding formulaCount
-shape-accepted c s h =
-    let e = ap countAnswer (walk-of c s h noNumber) in
-    (ap countNumber e, ap countValue e)
+shape-count c s h = ap countAnswer (walk-of c s h noNumber)
+
+pub shape-accepted : (c : ℕ) (s : List ℕ) → SheetOf c s → Accepted s × (countValue (formulaCount s) ≡ c)
+shape-accepted c s h = (ap countNumber (shape-count c s h), ap countValue (shape-count c s h))

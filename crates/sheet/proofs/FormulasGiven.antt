@@ -8,15 +8,13 @@ use native.Mathlib.Omega.{arith}
 use lib.ListN.{length}
 use Rattle.admission.specs.declared.Admission.{Admission}
 use Rattle.admission.specs.declared.Admission.the-variants.{Admitted, RangeLeft, DivisorZero}
-use Rattle.formula.specs.declared.Formula.{Formula}
 use Rattle.admission.specs.Admission.{numberOf}
-use Rattle.formula.specs.Formula.{Sound, admissionOf}
 use Rattle.layout.specs.Fields.{codeOf, formulaNumber, shapeOf, loOf, hiOf, wordsOf, padded, formulaOf}
 use Rattle.layout.proofs.Rule.{ruled}
-use Rattle.records.specs.Faults.{rowFor, valueFault, places, innerFault}
+use Rattle.records.specs.Faults.{rowFor, valueFault, innerFault}
 use Rattle.records.specs.Walking.{refusal}
 use Rattle.records.specs.Sheets.{FormulaBytes, Has, SheetOf}
-use Rattle.sheet.specs.Reader.{countNumber, formulaCount, foundNumber, foundPlace, reading, withheld, placeFound, placeAnswer, formulaPlace, readAt, formulaRead, Accepted, Answered}
+use Rattle.sheet.specs.Reader.{countNumber, formulaCount, foundNumber, foundPlace, reading, withheld, placeFound, placeAnswer, formulaPlace, readAt, formulaRead, Accepted, Answered, Fit}
 use Rattle.sheet.specs.declared.answers.FormulaCount.{FormulaCount}
 use Rattle.sheet.specs.declared.answers.FormulaCount.the-variants.{Count, Refused}
 use Rattle.sheet.specs.declared.answers.Found.the-variants.{Given}
@@ -31,10 +29,6 @@ use Rattle.sheet.proofs.SameRefusal.{same-refusal}
 use Rattle.sheet.proofs.Places.{At, noted, has, stands, given}
 
 -- ---- a formula record without fault holds a sound, admitted formula
-
-pub record Fit (f : Formula) : Type 0 where
-  pub sound : Sound (f .shape) (f .lo) (f .hi) (f .words)
-  pub admitted : admissionOf places (f .shape) (f .lo) (f .hi) (f .words) ≡ Admitted
 
 only-admitted : (a : Admission) → numberOf a ≡ 0 → a ≡ Admitted
 only-admitted Admitted e = refl

@@ -12,7 +12,9 @@ use Rattle.layout.specs.declared.table.Row.{Row}
 use Rattle.records.specs.Guard.{guard}
 use Rattle.records.specs.Faults.{frameFault, bytesAt, rowFor, orderFault, endFault, classFault, recordFault}
 use Rattle.records.specs.Walking.{walk, refusal, refused, ending, classStep, recordStep, begin, onStep, stepOf, walkFrom, walkOf}
-use Rattle.sheet.specs.Reader.{countAnswer, noNumber, formulaCount, withheld, placeAnswer, formulaPlace, readAt, formulaRead}
+use Rattle.sheet.specs.declared.answers.Place.{Place}
+use Rattle.sheet.specs.declared.answers.Place.the-variants.{At as StandsAt, Refused as Absent}
+use Rattle.sheet.specs.Reader.{placeNumber, placePlace, foundNumber, foundPlace, countAnswer, noNumber, formulaCount, withheld, placeAnswer, formulaPlace, readAt, formulaRead}
 use Rattle.records.specs.declared.refusal.Refusal.{Refusal}
 use Rattle.sheet.specs.declared.answers.FormulaCount.the-variants.{Refused}
 use Rattle.records.specs.declared.walking.Walk.{Walk}
@@ -91,3 +93,12 @@ same-refusal s n r e = at (walkOf s n) (same-walk s n ∙ e)
     at : (x : Walked) → countAnswer x ≡ Refused r → readAt s (placeAnswer x) ≡ withheld r
     at (Whole c k) q = absurd (let z : _≡_ {A = ℕ} 0 1 = cc in omega arith)
     at (Broken r′) q = ap withheld cc
+
+-- and a place is refused as its formula is
+pub place-number : (s : List ℕ) (n : ℕ) → (placeNumber (formulaPlace s n) ≡ foundNumber (formulaRead s n .found)) × (placePlace (formulaPlace s n) ≡ foundPlace (formulaRead s n .found))
+unfolding formulaRead
+place-number s n = at (formulaPlace s n)
+  where
+    at : (p : Place) → (placeNumber p ≡ foundNumber (readAt s p .found)) × (placePlace p ≡ foundPlace (readAt s p .found))
+    at (StandsAt k) = (refl, refl)
+    at (Absent r) = (refl, refl)

@@ -5,11 +5,13 @@ use mathlib.Core.List.{List, [], _∷_}
 use lib.ListN.{length, replicate}
 use lib.IntN.{pos}
 use Rattle.formula.specs.declared.Kind.the-variants.{NoFormula}
+use Rattle.admission.specs.declared.Admission.the-variants.{Admitted}
 use Rattle.formula.specs.declared.Formula.{Formula}
+use Rattle.formula.specs.Formula.{Sound, admissionOf}
 use Rattle.layout.specs.Numbers.{number2, number4}
 use Rattle.layout.specs.Table.{rows, firstRow, rowOf}
 use Rattle.layout.specs.Fields.{firstCount, fieldOf, shape, shapeOf, wordsBy, padded, formula, formulaOf}
-use Rattle.records.specs.Faults.{frameFault, bytesAt, rowFor, outside, countFault, sizeFault, lengthFault, startFault, recordFault}
+use Rattle.records.specs.Faults.{places, frameFault, bytesAt, rowFor, outside, countFault, sizeFault, lengthFault, startFault, recordFault}
 use Rattle.records.specs.Walking.{refusal, recordStep, stepOf, walkFrom, walkOf}
 use Rattle.records.specs.Sheets.{FormulaBytes}
 use Rattle.records.specs.declared.refusal.Refusal.{Refusal}
@@ -35,6 +37,14 @@ countPlace (Refused r) = r .place
 abbrev pub countValue : FormulaCount → ℕ
 countValue (Count c) = c
 countValue (Refused r) = 0
+
+abbrev pub placeNumber : Place → ℕ
+placeNumber (At k) = 0
+placeNumber (Absent r) = r .number
+
+abbrev pub placePlace : Place → ℕ
+placePlace (At k) = 0
+placePlace (Absent r) = r .place
 
 abbrev pub foundNumber : Found → ℕ
 foundNumber Given = 0
@@ -96,6 +106,11 @@ formulaRead s n = readAt s (formulaPlace s n)
 
 abbrev pub Answered : List ℕ → ℕ → Type 0
 Answered s n = foundNumber (formulaRead s n .found) ≡ 0
+
+-- a formula that is sound and admitted
+pub record Fit (f : Formula) : Type 0 where
+  pub sound : Sound (f .shape) (f .lo) (f .hi) (f .words)
+  pub admitted : admissionOf places (f .shape) (f .lo) (f .hi) (f .words) ≡ Admitted
 
 -- a formula record without fault stands at a place
 pub record Standing (s : List ℕ) (place : ℕ) : Type 0 where

@@ -3,11 +3,11 @@
 -- `h .fits-code` answers the need of the operation itself, and `held h ∙ ..` a `returns`.
 use mathlib.Core.Path.{_≡_, refl, sym, ap, ap₂, _∙_, subst}
 use mathlib.Core.Bool.{Bool, true, false, not}
-use lib.Dec.{T, ltb, leb, lt→ltb, nleb→lt}
+use lib.Dec.{T, ltb, leb}
 use Prim.Native.Nat.{ℕ, _^_, _<_}
 use native.Mathlib.Omega.{arith}
 use lib.IntN.{ℤ, pos, negsuc, negℤ, natAbs, _+ℤ_, _-ℤ_, _*ℤ_, +ℤ-idl}
-use lib.Signed.{nonNeg, yes-nonNeg, _≤ℤ_, _<ℤ_, leZ, ltZ, ltZ-no, mag, shrZ, quotZ, remZ, mag-shr, mag-rem}
+use lib.Signed.{nonNeg, yes-nonNeg, _≤ℤ_, _<ℤ_, ltZ, ltZ-no, mag, shrZ, quotZ, remZ, mag-shr, mag-rem}
 use mir.Syntax.{Width}
 use mir.Val.{Fits, SFits, bits, hbits, toZ, ofZ}
 use mir.Facts.{toZ-ofZ, sfits-lit, sfits-widen}
@@ -96,18 +96,6 @@ tested-lt {w} {x} {y} {x′} {y′} h k e = record { lt = is-true (ltZ y y′) (
 
 pub tested-ge : {w : Width} {x y x′ y′ : ℤ} → Held w x y → Held w x′ y′ → ltZ (back w x) (back w x′) ≡ false → y′ ≤ℤ y
 tested-ge {w} {x} {y} {x′} {y′} h k e = ltZ-no (is-false (ltZ y y′) (sym (ap₂ ltZ (held h) (held k)) ∙ e))
-
-pub tested-le : {w : Width} {x y x′ y′ : ℤ} → Held w x y → Held w x′ y′ → leZ (back w x) (back w x′) ≡ true → y ≤ℤ y′
-tested-le {w} {x} {y} {x′} {y′} h k e = record { le = is-true (leZ y y′) (sym (ap₂ leZ (held h) (held k)) ∙ e) }
-
-pub tested-gt : {w : Width} {x y x′ y′ : ℤ} → Held w x y → Held w x′ y′ → leZ (back w x) (back w x′) ≡ false → y′ <ℤ y
-tested-gt {w} {x} {y} {x′} {y′} h k e = leZ-no y y′ (is-false (leZ y y′) (sym (ap₂ leZ (held h) (held k)) ∙ e))
-  where
-    leZ-no : (a b : ℤ) → T (not (leZ a b)) → b <ℤ a
-    leZ-no (pos a) (pos b) t = record { lt = lt→ltb b a (nleb→lt a b t) }
-    leZ-no (pos a) (negsuc b) t = record { lt = tt }
-    leZ-no (negsuc a) (pos b) t = absurd t
-    leZ-no (negsuc a) (negsuc b) t = record { lt = lt→ltb a b (nleb→lt b a t) }
 
 -- ---- a cast to an unsigned width
 pub held-nat : {w : Width} {x y : ℤ} → Held w x y → natAbs (back w x) ≡ natAbs y

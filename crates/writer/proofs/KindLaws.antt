@@ -1,14 +1,14 @@
 -- The row of a formula's kind, and the words that a formula keeps.
 use mathlib.Core.Path.{_≡_, refl, ap, subst}
-use mathlib.Core.List.{List, [], _∷_, _++_, append-assoc}
+use mathlib.Core.List.{List, [], _∷_, _++_}
 use mathlib.Core.Logic.{_⊎_, inl, inr}
 use mathlib.Core.Bool.{Bool, true, false, cond}
-use Prim.Native.Nat.{ℕ, suc, _+_, _-_, _<_, _≤_}
+use Prim.Native.Nat.{ℕ, _+_, _<_, _≤_}
 use native.Mathlib.Numerals.{add-one}
 use native.Mathlib.Omega.{arith}
 use lib.Dec.{eqb}
-use lib.ListN.{length, getD, take, set, replicate, length-append}
-use lib.Seq.{set-append-seam, take-suc, length-take-le}
+use lib.ListN.{length, getD, take, set}
+use lib.Seq.{take-suc, length-take-le}
 use lib.IntN.{ℤ, pos}
 use borrow.Author.Tests.{eqb-true}
 use Rattle.formula.specs.declared.Kind.{Kind}
@@ -19,6 +19,8 @@ use Rattle.layout.specs.Table.{rows, unknown, firstRow, rowOf}
 use Rattle.layout.specs.declared.table.Row.{Row}
 use Rattle.layout.specs.Fields.{padded, wordsBy, lengthBy}
 use Rattle.layout.proofs.TableLaws.{_also_, each-row}
+use Rattle.layout.proofs.Rule.{apart}
+use Rattle.layout.proofs.Padded.{padded-more}
 use Rattle.writer.specs.Bytes.{Ordered}
 use Rattle.writer.specs.Kinds.{codeFor, onlyFormula}
 
@@ -35,14 +37,6 @@ formula-only StartRecord e = absurd (omega arith)
 formula-only FormulaRecord e = refl
 formula-only EndRecord e = absurd (omega arith)
 formula-only Unknown e = absurd (omega arith)
-
--- one word more
-padded-more : (l : List ℤ) (v : ℤ) → length l < 32 → set (padded l) (length l) v ≡ padded (l ++ (v ∷ []))
-unfolding padded
-padded-more l v h =
-    let e : 32 - length l ≡ suc (31 - length l) = omega arith in
-    let f : 32 - length (l ++ (v ∷ [])) ≡ 31 - length l = omega (arith, length-append l (v ∷ [])) in
-    rw (e, f, set-append-seam l (pos 0) (replicate (31 - length l) (pos 0)) v, append-assoc)
 
 -- a turn of the loop that copies
 pub turn : (ws : List ℤ) (i : ℕ) (a : List ℤ) (v : ℤ) → i < 32 → i < length ws → a ≡ padded (take i ws) → v ≡ getD ws i (pos 0) → set a i v ≡ padded (take (i + 1) ws)
@@ -141,15 +135,6 @@ code-again =
     (no-formula (λ z. omega arith))
 
 -- ---- the rows of a start and of an end
-
-abbrev tag : Class → ℕ
-tag StartRecord = 0
-tag FormulaRecord = 1
-tag EndRecord = 2
-tag Unknown = 3
-
-pub apart : {A : Type 0} {k l : Class} → (tag k ≡ tag l → ⊥) → k ≡ l → A
-apart h e = absurd (h (ap tag e))
 
 pub start-row : (c : ℕ) → rowOf c .class ≡ StartRecord → (rowOf c .code ≡ 0x0001) × ((p q : ℕ) → lengthBy (rowOf c) p q ≡ 8)
 unfolding rows wordsBy

@@ -16,13 +16,13 @@ use Rattle.records.specs.Faults.{bytesAt, rowFor}
 use Rattle.records.specs.Sheets.{FormulaBytes, EachFormula, Rising, joined, Has, SheetOf}
 use Rattle.records.specs.Walking.{walkOf}
 use Rattle.records.specs.declared.walking.Walked.{Walked}
-use Rattle.sheet.specs.Reader.{formulaCount, noNumber, countAnswer, reading, placeAnswer, formulaPlace, readAt, formulaRead}
+use Rattle.sheet.specs.Reader.{formulaCount, reading, placeAnswer, formulaPlace, readAt, formulaRead}
 use Rattle.sheet.specs.declared.answers.FormulaCount.{FormulaCount}
 use Rattle.sheet.specs.declared.answers.FormulaCount.the-variants.{Count, Refused}
 use Rattle.sheet.specs.declared.answers.Found.the-variants.{Given}
 use Rattle.records.proofs.ShapeToWalk.{placeIn}
 use Rattle.sheet.proofs.Places.{At, noted, stands, given}
-use Rattle.sheet.proofs.AcceptedShape.{walk-of}
+use Rattle.sheet.proofs.AcceptedShape.{walk-of, shape-count}
 use Rattle.writer.specs.Answers.{writingNumber, refusedBy}
 use Rattle.writer.specs.Kinds.{plainBy, plain, rowBy}
 use Rattle.writer.specs.RecordWriter.{recordWriting, bytesOf}
@@ -56,16 +56,11 @@ counted run room n e = at (eqb (length run) 0) refl e
     at true q p = absurd (let z : _≡_ {A = ℕ} 0 1 = cc in omega arith)
     at false q p = by (runCount run) refl (eqb-false _ _ q) p
 
--- a sheet of c formulas is counted so
-count-of : (c : ℕ) (s : List ℕ) → SheetOf c s → formulaCount s ≡ Count c
-unfolding formulaCount
-count-of c s h = ap countAnswer (walk-of c s h noNumber)
-
 pub reads-sheet : (run : List ℕ) (room n : ℕ) → sheetWriting run room ≡ Written n → (c : ℕ) × (runCount run ≡ Count c) × (formulaCount (sheetOf run) ≡ Count c)
 reads-sheet run room n e =
     let k = counted run room n e in
     let c = k .0 in
-    (c, k .1, rw (k .1) (count-of c (sheetBytes c run) (sheet-shape c run (k .2) (run-shape run c (k .1)))))
+    (c, k .1, rw (k .1) (shape-count c (sheetBytes c run) (sheet-shape c run (k .2) (run-shape run c (k .1)))))
 
 -- ---- formulas that the record writer accepts
 
@@ -173,7 +168,7 @@ reads-written fs h m w o =
     let s = sheet-shape (length bs) run (omega (arith, l, h)) (record { formulas = bs; whole = refl; many = refl; few = omega (arith, l, m); each = e; rising = r }) in
     record {
       written = λ room g. sheet-written bs room (omega (arith, l, h)) (omega (arith, l, m)) e r g;
-      count = rw k (count-of (length bs) (sheetBytes (length bs) run) s ∙ ap Count l);
+      count = rw k (shape-count (length bs) (sheetBytes (length bs) run) s ∙ ap Count l);
       each = λ f i.
           let t = in-records f fs w i in
           rw k (rw (t .1 .number, t .1 .again) at (reads-record (length bs) (sheetBytes (length bs) run) s (bytesOf f) (t .0)));

@@ -1,19 +1,23 @@
 -- The record writer's faults, a link at a time.
-use mathlib.Core.Path.{_≡_, sym}
+use mathlib.Core.Path.{_≡_, refl, sym}
+use mathlib.Core.Bool.{Bool, true, false, cond}
 use Prim.Native.Nat.{ℕ, _≤_}
 use native.Mathlib.Omega.{arith}
-use lib.Dec.{ltb}
+use lib.Dec.{ltb, eqb}
 use borrow.Author.Tests.{ltb-false}
 use Rattle.formula.specs.declared.Formula.{Formula}
 use Rattle.layout.specs.declared.table.Row.{Row}
 use Rattle.layout.specs.Fields.{lengthBy}
 use Rattle.layout.proofs.Rule.{ruled}
+use Rattle.records.specs.Guard.{guard}
 use Rattle.records.specs.Faults.{innerFault}
 use Rattle.records.proofs.Chain.{passed, neither}
 use Rattle.records.proofs.Lengths.{counted}
-use Rattle.writer.specs.Kinds.{codeFor, onlyFormula, plainShape, plainBy, rowBy}
+use Rattle.writer.specs.Answers.{writingPlace, refusedBy}
+use Rattle.writer.specs.declared.answers.Writing.the-variants.{Written}
+use Rattle.writer.specs.Kinds.{codeFor, onlyFormula, plainShape, plainBy, rowBy, plain}
 use Rattle.writer.specs.Bytes.{Ready}
-use Rattle.writer.specs.RecordWriter.{kindAndCounts, valuesAndRoom}
+use Rattle.writer.specs.RecordWriter.{kindAndCounts, valuesAndRoom, plainWriting, recordWriting}
 use Rattle.writer.proofs.KindLaws.{kind-of-row, formula-only, ordered}
 
 pub ready : (f : Formula) → kindAndCounts (rowBy f) (plainShape (rowBy f) (f .shape) .p) (plainShape (rowBy f) (f .shape) .q) ≡ 0 → Ready (rowBy f) (plainBy (rowBy f) f)
@@ -37,3 +41,16 @@ unfolding valuesAndRoom
 room r f n e =
     let v = neither (innerFault r f) _ e in
     (v .0, ltb-false _ _ (passed (ltb n (lengthBy r (f .shape .p) (f .shape .q))) 12 0 (λ z. omega arith) (v .1) .0))
+
+-- all at place 0
+pub record-place : (f : Formula) (room : ℕ) → writingPlace (recordWriting f room) ≡ 0
+unfolding plainWriting
+record-place f room = at (kindAndCounts (rowBy f) (plain f .shape .p) (plain f .shape .q)) (valuesAndRoom (rowBy f) (plain f) room) _
+  where
+    by : (t u : Bool) (a b n : ℕ) → writingPlace (cond t (cond u (Written n) (refusedBy b)) (refusedBy a)) ≡ 0
+    by true true a b n = refl
+    by true false a b n = refl
+    by false u a b n = refl
+
+    at : (a b n : ℕ) → writingPlace (guard a refusedBy (guard b refusedBy (Written n))) ≡ 0
+    at a b n = by (eqb a 0) (eqb b 0) a b n

@@ -35,7 +35,8 @@ use Rattle.writer.specs.RecordWriter.{kindAndCounts, valuesAndRoom, plai
 use Rattle.writer.specs.Runs.{runCount}
 use Rattle.writer.specs.SheetWriter.{boundBytes, sheetWriting, sheetOf}
 use Rattle.writer.specs.declared.answers.Writing.the-variants.{Written}
-use Rattle.writer.proofs.KindLaws.{ordered, code-found, code-again, apart, start-row, end-row}
+use Rattle.layout.proofs.Rule.{apart}
+use Rattle.writer.proofs.KindLaws.{ordered, code-found, code-again, start-row, end-row}
 use Rattle.writer.proofs.RunShape.{none, shape-run}
 use Rattle.writer.proofs.SheetShape.{sheet-written}
 use Rattle.writer.proofs.ReadsWritten.{In, reads-record}

@@ -1,15 +1,7 @@
 // What a writer answers: how many bytes it has written, or why it has written none.
-ghost use mathlib.Core.Path.{_≡_};
-ghost use Rattle.writer.specs.Answers.{refusedBy};
 use records::refusal::Refusal;
 
 pub enum Writing {
     Written(usize),
     Refused(Refusal),
-}
-
-pub fn refused_by(number: u8) -> Writing
-    ensures { λ r. ⌜ r ≡ refusedBy number ⌝ }
-{
-    Writing::Refused(Refusal { number, place: 0 })
 }

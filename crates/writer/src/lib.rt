@@ -3,6 +3,7 @@ pub mod answers;
 mod bytes;
 mod kinds;
 pub mod record_writer;
+mod refusals;
 mod runs;
 pub mod sheet_writer;
 

@@ -5,10 +5,10 @@ ghost use Rattle.records.specs.Faults.{innerFault};
 ghost use Rattle.writer.specs.Answers.{bufferAfter};
 ghost use Rattle.writer.specs.Bytes.{Ready};
 ghost use Rattle.writer.specs.RecordWriter.{kindAndCounts, valuesAndRoom, recordWriting, bytesOf};
-use crate::answers;
 use crate::answers::Writing;
 use crate::bytes;
 use crate::kinds;
+use crate::refusals;
 use formula::Formula;
 use layout::fields;
 use layout::table;
@@ -64,12 +64,12 @@ pub fn write_record(f: Formula, out: &mut [u8]) -> Writing
     let shape = kinds::plain_shape(row, given);
     let a = kind_and_counts(row, shape.p, shape.q);
     if a != 0 {
-        return answers::refused_by(a);
+        return refusals::refused_by(a);
     }
     let plain = kinds::plain_by(row, f);
     let b = values_and_room(row, plain, out.len());
     if b != 0 {
-        return answers::refused_by(b);
+        return refusals::refused_by(b);
     }
     Writing::Written(bytes::put_record(row, plain, out))
 }

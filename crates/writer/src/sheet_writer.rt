@@ -5,8 +5,8 @@ ghost use lib.ListN.{length};
 ghost use lib.Seq.{sets};
 ghost use Rattle.writer.specs.Answers.{bufferAfter};
 ghost use Rattle.writer.specs.SheetWriter.{boundBytes, sheetBytes, sheetWriting, sheetOf};
-use crate::answers;
 use crate::answers::Writing;
+use crate::refusals;
 use crate::runs;
 use layout::numbers;
 use sheet::answers::FormulaCount;
@@ -44,13 +44,13 @@ pub fn write_sheet(run: &[u8], out: &mut [u8]) -> Writing
     ensures { λ r. ⌜ (r ≡ sheetWriting (now (run .entry)) (length (now (out .entry)))) × (now (out .exit) ≡ bufferAfter r (sheetOf (now (run .entry))) (now (out .entry))) ⌝ }
 {
     if run.len() == 0 {
-        return answers::refused_by(4);
+        return refusals::refused_by(4);
     }
     match runs::run_count(run) {
         FormulaCount::Count(count) => {
             let n = run.len() + 16;
             if out.len() < n {
-                return answers::refused_by(12);
+                return refusals::refused_by(12);
             }
             put_sheet(out, run, count);
             Writing::Written(n)

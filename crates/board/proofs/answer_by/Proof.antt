@@ -1,6 +1,6 @@
 -- `board::answer_by` meets its contract.
 use borrow.Author.Needs.{needs}
-use mathlib.Core.Path.{refl, sym, ap, _∙_, subst}
+use mathlib.Core.Path.{refl, ap, _∙_}
 use native.Mathlib.Omega.{arith}
 use denote.Ref.{now}
 use lib.Signed.{_≤ℤ_}
@@ -8,9 +8,7 @@ use mir.Syntax.{w32}
 use Rattle.whole.proofs.Fit.{fit-abs}
 use Rattle.whole.proofs.Held.{Held, held, arg, known, given, tested-lt, tested-ge}
 use Rattle.formula.specs.declared.Formula.{Formula}
-use Rattle.formula.specs.Formula.{answerOf, Answerable}
 use Rattle.layout.specs.Fields.{padded, formulaOf}
-use Rattle.records.specs.Faults.{places}
 use Rattle.board.specs.Board.{answered}
 use Rattle.board.proofs.IntervalLaws.{below-low, above-high, inside, answerable}
 use Rattle.board.proofs.answer_by.Statement.{statement}
@@ -42,7 +40,7 @@ returns-2 c =
     let h = c .before .before in
     let g = h .before .before in
     let d = g .before .before in
-    c .refused2 .ensures ∙ above-high (f d) (d .args .x) (tested-ge (x-held d) (low-held g) (h .before .if1 .left)) (tested-lt (high-held h) (x-held d) (c .before .if2 .taken))
+    c .refused2 .ensures ∙ above-high (f d) (d .args .x) (tested-lt (high-held h) (x-held d) (c .before .if2 .taken))
 
 -- past the two tests, the argument is inside
 module _ (c : tie.Else2) where

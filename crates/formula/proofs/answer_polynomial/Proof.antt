@@ -1,6 +1,5 @@
 -- `formula::answer_polynomial` meets its contract.
-use borrow.Author.Needs.{needs}
-use mathlib.Core.Path.{_≡_, sym, ap, _∙_, subst}
+use mathlib.Core.Path.{sym, ap, _∙_, subst}
 use lib.ListN.{take}
 use lib.Seq.{length-take-le}
 use mir.Syntax.{w32}

@@ -1,6 +1,6 @@
 -- `measured_writer::measured_write_sheet` meets its contract: the length of the case that is told, the buffer as the writer left it.
 use borrow.Author.Needs.{needs}
-use mathlib.Core.Path.{sym, ap, subst, _∙_}
+use mathlib.Core.Path.{sym, ap, _∙_}
 use denote.Ref.{now}
 use Rattle.writer.specs.Answers.{writtenLength, bufferAfter}
 use Rattle.writer.specs.SheetWriter.{sheetOf}

@@ -7,9 +7,6 @@ use lib.Pow.{pow-pos, pow-mono}
 use Rattle.word.proofs.RoundedLaws.{up-as}
 use Rattle.word.proofs.bound_product.Statement.{statement}
 use Rattle.word.proofs.bound_product.Tie as tie
-use Rattle.word.proofs.bound_product.Reads as reads
-use Rattle.word.proofs.bound_product.Lts as lts
-use Rattle.word.proofs.unit.Reads as unit-reads
 
 times-most : (a b : ℕ) → a < 2 ^ 32 → b < 2 ^ 32 → a * b ≤ 18446744065119617025
 times-most a b f g = mul-le-mul {n₁ = a} {m₁ = b} {n₂ = 4294967295} {m₂ = 4294967295} (omega arith) (omega arith)

@@ -7,9 +7,6 @@ use lib.Pow.{pow-mono}
 use Rattle.word.proofs.RoundedLaws.{up-as}
 use Rattle.word.proofs.bound_quotient.Statement.{statement}
 use Rattle.word.proofs.bound_quotient.Tie as tie
-use Rattle.word.proofs.bound_quotient.Reads as reads
-use Rattle.word.proofs.bound_quotient.Lts as lts
-use Rattle.word.proofs.unit.Reads as unit-reads
 
 times-most : (a u s : ℕ) → a < 2 ^ 32 → u ≡ 2 ^ s → s ≤ 28 → a * u ≤ 1152921504338411520
 times-most a u s f e g = mul-le-mul {n₁ = a} {m₁ = u} {n₂ = 4294967295} {m₂ = 268435456} (omega arith) (omega (arith, pow-mono {i = s} {j = 28} g))

@@ -2,7 +2,7 @@ use borrow.Author.Needs.{needs}
 use mathlib.Core.Path.{_≡_, _∙_}
 use mir.Facts.{toZ-ofZ}
 use denote.Ref.{now}
-use Rattle.records.specs.Faults.{ownFault, wordsFault, valueFault}
+use Rattle.records.specs.Faults.{ownFault}
 use Rattle.records.proofs.Chain.{stop, pass}
 use Rattle.records.proofs.Values.{own-then-words}
 use Rattle.records.proofs.faults.value_fault.Statement.{statement}

@@ -1,6 +1,5 @@
 use borrow.Author.Needs.{needs}
-use mathlib.Core.Path.{_≡_, _∙_, sym, ap}
-use denote.Ref.{now}
+use mathlib.Core.Path.{_∙_, sym, ap}
 use Rattle.sheet.specs.Reader.{placeFound, placeAnswer, formulaPlace}
 use Rattle.sheet.proofs.Places.{at-place}
 use Rattle.sheet.proofs.reader.formula_place.Statement.{statement}
