@@ -4,6 +4,7 @@
 #include "plain.h"
 #include "mark.h"
 #include "sheets.h"
+#include "valvepigeon.h"
 int printf(const char *, ...);
 enum { N = 1000, ROUNDS = 41, PLACES = 24 };
 static word near_one[N], about_one[N], positive[N];
@@ -56,5 +57,12 @@ int main(void) {
     ROW("writing 64 formulas", plain_write_sheet(run, run_length, out, sizeof out), measured_write_sheet(run, run_length, out, sizeof out));
     ROW("one-call polynomial", plain_evaluate(sine_sheet, sizeof sine_sheet, 12, near_one[i]), measured_evaluate(sine_sheet, sizeof sine_sheet, 12, near_one[i]));
     ROW("one-call fraction", plain_evaluate(tangent_sheet, sizeof tangent_sheet, 54, near_one[i] / 2), measured_evaluate(tangent_sheet, sizeof tangent_sheet, 54, near_one[i] / 2));
+#ifndef TIMES
+    /* the library as it is shipped; not timed elsewhere than on x86-64, since its structs go by value as there */
+    ROW("shipped: reading", plain_count(all_sheet, sizeof all_sheet), vp_count(all_sheet, sizeof all_sheet).count);
+    ROW("shipped: writing", plain_write_sheet(run, run_length, out, sizeof out), vp_write_sheet(run, run_length, out, sizeof out).length);
+    ROW("shipped: polynomial", plain_evaluate(sine_sheet, sizeof sine_sheet, 12, near_one[i]), vp_evaluate(sine_sheet, sizeof sine_sheet, 12, near_one[i]).word);
+    ROW("shipped: fraction", plain_evaluate(tangent_sheet, sizeof tangent_sheet, 54, near_one[i] / 2), vp_evaluate(tangent_sheet, sizeof tangent_sheet, 54, near_one[i] / 2).word);
+#endif
     return 0;
 }
