@@ -149,15 +149,15 @@ start-row =
     also tt)
     (apart (λ z. omega arith))
 
-pub end-row : (c : ℕ) → rowOf c .class ≡ EndRecord → (rowOf c .code ≡ 0xffff) × ((p q : ℕ) → lengthBy (rowOf c) p q ≡ 8)
-unfolding rows wordsBy
-end-row =
-    each-row (λ r. r .class ≡ EndRecord → (r .code ≡ 0xffff) × ((p q : ℕ) → lengthBy r p q ≡ 8))
+pub end-code : (c : ℕ) → rowOf c .class ≡ EndRecord → rowOf c .code ≡ 0xffff
+unfolding rows
+end-code =
+    each-row (λ r. r .class ≡ EndRecord → r .code ≡ 0xffff)
     (apart (λ z. omega arith)
     also apart (λ z. omega arith)
     also apart (λ z. omega arith)
     also apart (λ z. omega arith)
     also apart (λ z. omega arith)
-    also (λ e. (refl, λ p q. omega arith))
+    also (λ e. refl)
     also tt)
     (apart (λ z. omega arith))

@@ -24,6 +24,7 @@ use Rattle.records.specs.Sheets.{RecordOf, FormulaBytes, EachFormula, joined, H
 use Rattle.sheet.specs.Reader.{countValue, formulaCount, Accepted, Answered, formulaRead}
 use Rattle.sheet.specs.declared.answers.Reading.{Reading}
 use Rattle.sheet.specs.declared.answers.FormulaCount.the-variants.{Count}
+use Rattle.sheet.proofs.ZeroTail.{end-is-eight}
 use Rattle.sheet.proofs.AcceptedShape.{accepted-shape}
 use Rattle.sheet.proofs.FormulasGiven.{found-exactly}
 use Rattle.records.proofs.Chain.{goes, passed, neither}
@@ -36,7 +37,7 @@ use Rattle.writer.specs.Runs.{runCount}
 use Rattle.writer.specs.SheetWriter.{boundBytes, sheetWriting, sheetOf}
 use Rattle.writer.specs.declared.answers.Writing.the-variants.{Written}
 use Rattle.layout.proofs.Rule.{apart}
-use Rattle.writer.proofs.KindLaws.{ordered, code-found, code-again, start-row, end-row}
+use Rattle.writer.proofs.KindLaws.{ordered, code-found, code-again, start-row, end-code}
 use Rattle.writer.proofs.RunShape.{none, shape-run}
 use Rattle.writer.proofs.SheetShape.{sheet-written}
 use Rattle.writer.proofs.ReadsWritten.{In, reads-record}
@@ -140,22 +141,18 @@ bound-again b code count h n e c k =
     join b 0 6 2 6 (join b 0 4 2 4 (ap bytes4 (sym (e ∙ n)) ∙ four-again b 0 h (omega (arith, n))) (ap bytes2 (sym c) ∙ two-again b 4 h (omega (arith, n))) refl) (ap bytes2 (sym k) ∙ two-again b 6 h (omega (arith, n))) refl
     ∙ take-all 8 b (omega (arith, n))
 
-eight : (k : Class) (b : List ℕ) → RecordOf k b → ((p q : ℕ) → lengthBy (rowFor b) p q ≡ 8) → length b ≡ 8
-eight k b o e = sym (laid (rowFor b) b (o .exact) .exact) ∙ e (shapeOf (rowFor b) b .p) (shapeOf (rowFor b) b .q)
-
 start-again : (b : List ℕ) (c : ℕ) → Bytes b → RecordOf StartRecord b → countOf b ≡ c → (length b ≡ 8) × (boundBytes 0x0001 c ≡ b)
 start-again b c h o e =
     let r = start-row (codeOf b) (o .class) in
-    let n = eight StartRecord b o (r .1) in
+    let n : length b ≡ 8 = sym (laid (rowFor b) b (o .exact) .exact) ∙ r .1 (shapeOf (rowFor b) b .p) (shapeOf (rowFor b) b .q) in
     let k = code-found (codeOf b) (λ z. apart (λ x. omega arith) (sym (o .class) ∙ z)) in
     (n, bound-again b 0x0001 c h n (o .says) (sym k ∙ r .0) e)
 
 end-again : (b : List ℕ) (c : ℕ) → Bytes b → RecordOf EndRecord b → countOf b ≡ c → (length b ≡ 8) × (boundBytes 0xffff c ≡ b)
 end-again b c h o e =
-    let r = end-row (codeOf b) (o .class) in
-    let n = eight EndRecord b o (r .1) in
+    let n = end-is-eight b o in
     let k = code-found (codeOf b) (λ z. apart (λ x. omega arith) (sym (o .class) ∙ z)) in
-    (n, bound-again b 0xffff c h n (o .says) (sym k ∙ r .0) e)
+    (n, bound-again b 0xffff c h n (o .says) (sym k ∙ end-code (codeOf b) (o .class)) e)
 
 -- what stands between a sheet's start and its end
 abbrev pub runOf : List ℕ → List ℕ
