@@ -1,7 +1,6 @@
 // The board: a whole sheet, a number and an argument in; an answer or a numbered refusal out.
 ghost use mathlib.Core.Path.{_≡_};
-ghost use Rattle.layout.specs.Rule.{Held};
-ghost use Rattle.layout.specs.Fields.{formulaOf};
+ghost use Rattle.layout.specs.Fields.{Held, formulaOf};
 ghost use Rattle.records.specs.Faults.{rowFor};
 ghost use Rattle.records.specs.Sheets.{FormulaBytes};
 ghost use Rattle.sheet.specs.Reader.{formulaRead, formulaAt, Fit, Standing};
@@ -16,12 +15,11 @@ use answers::Worked;
 use door::answer::Taken;
 use layout::fields;
 use layout::numbers;
-use layout::table;
-use layout::table::Row;
 use records::refusal::Refusal;
 use sheet::answers::Found;
 use sheet::answers::Place;
 use sheet::reader;
+use table::Row;
 
 // Binary places of every word.
 const PLACES: u32 = 24;

@@ -1,7 +1,6 @@
 -- Laws, lowest first.
 pub mod Back
 pub mod NumberLaws
-pub mod TableLaws
-pub mod Rule
+pub mod Held
 pub mod Padded
 pub mod StoreLaws

@@ -10,9 +10,11 @@ use Rattle.formula.specs.declared.Kind.{Kind}
 use Rattle.formula.specs.declared.Kind.the-variants.{Polynomial, Rational}
 use Rattle.formula.specs.declared.Shape.{Shape}
 use Rattle.formula.specs.declared.Formula.{Formula}
-use Rattle.layout.specs.declared.table.Field.{Field}
-use Rattle.layout.specs.declared.table.Row.{Row}
-use Rattle.layout.specs.Table.{rows, firstRow, rowOf}
+use Rattle.table.specs.declared.Class.the-variants.{FormulaRecord}
+use Rattle.table.specs.declared.Field.{Field}
+use Rattle.table.specs.declared.Row.{Row}
+use Rattle.table.specs.Table.{rows, firstRow, rowOf, wordsBy, lengthBy, Within}
+use Rattle.table.specs.Rule.{Ruled}
 use Rattle.layout.specs.Numbers.{number2, word4}
 
 -- the kind's code, a start's or an end's count, and a formula's number, lo and hi
@@ -45,13 +47,6 @@ shape k p q m = record { kind = k; p = p; q = q; mode = m }
 unfoldable pub shapeOf : Row → List ℕ → Shape
 shapeOf r b = shape (r .kind) (firstCount r b) (fieldOf (r .q) b) (fieldOf (r .mode) b)
 
--- how many words, and how many bytes, there are for two counts
-unfoldable pub wordsBy : Row → ℕ → ℕ → ℕ
-wordsBy r p q = r .base + r .p .each * p + r .q .each * q
-
-abbrev pub lengthBy : Row → ℕ → ℕ → ℕ
-lengthBy r p q = r .head + 4 * wordsBy r p q
-
 -- the m words from a place on
 unfoldable pub words : List ℕ → ℕ → ℕ → List ℤ
 words b at zero = []
@@ -70,15 +65,19 @@ formula n h l u w = record { number = n; shape = h; lo = l; hi = u; words = w }
 unfoldable pub formulaOf : Row → List ℕ → Formula
 formulaOf r b = formula (formulaNumber b) (shapeOf r b) (loOf b) (hiOf b) (padded (wordsOf r b))
 
--- a count in its range
-abbrev pub Within : Field → ℕ → Type 0
-Within f n = (f .least ≤ n) × (n ≤ f .most)
-
 -- counts in their ranges, and the length that they ask for
 pub record Laid (r : Row) (b : List ℕ) : Type 0 where
   pub p : Within (r .p) (shapeOf r b .p)
   pub q : Within (r .q) (shapeOf r b .q)
   pub exact : lengthBy r (shapeOf r b .p) (shapeOf r b .q) ≡ length b
+
+-- the bytes of a formula record, of the length that its kind and counts ask for
+pub record Held (r : Row) (b : List ℕ) : Type 0 where
+  pub ruled : Ruled r
+  pub class : r .class ≡ FormulaRecord
+  pub least : 16 ≤ length b
+  pub most : length b ≤ 120
+  pub laid : Laid r b
 
 -- ---- worked examples: a polynomial of 24 bytes has two coefficients; a rational's counts are stored
 by-length : shapeOf (rowOf 0x0010) (replicate 24 0) ≡ shape Polynomial 2 0 0
@@ -88,8 +87,3 @@ by-length = refl
 by-fields : shapeOf (rowOf 0x0011) (replicate 16 0 ++ (3 ∷ 0 ∷ 2 ∷ 0 ∷ [])) ≡ shape Rational 3 2 0
 unfolding rows firstRow rowOf number2 firstCount fieldOf shapeOf
 by-fields = refl
-
--- a fraction of depth 2 has b0, a1, b1, a2, b2
-depth-two : lengthBy (rowOf 0x0012) 2 0 ≡ 40
-unfolding rows firstRow rowOf wordsBy
-depth-two = refl

@@ -3,13 +3,14 @@ ghost use mathlib.Core.Path.{_≡_};
 ghost use mathlib.Core.List.{[]};
 ghost use Prim.Native.Nat.{_+_, _*_, _≤_};
 ghost use lib.ListN.{length};
-ghost use Rattle.layout.specs.Rule.{Ruled, Held};
-ghost use Rattle.layout.specs.Fields.{firstCount, fieldOf, shapeOf, wordsBy, words, padded, formulaOf};
+ghost use Rattle.table.specs.Rule.{Ruled};
+ghost use Rattle.table.specs.Table.{wordsBy};
+ghost use Rattle.layout.specs.Fields.{firstCount, fieldOf, shapeOf, words, padded, formulaOf, Held};
 use crate::numbers;
-use crate::table::Field;
-use crate::table::Row;
 use formula::Formula;
 use formula::Shape;
+use table::Field;
+use table::Row;
 
 fn first_count(b: &[u8], row: Row) -> u16
     requires { ⌜ Ruled row × (row .head ≤ length (now b)) × (length (now b) ≤ 120) ⌝ }
@@ -46,14 +47,7 @@ pub fn shape_of(b: &[u8], row: Row) -> Shape
     }
 }
 
-pub fn words_by(row: Row, p: u16, q: u16) -> usize
-    requires { ⌜ Ruled row × (p ≤ row .p .most) × (q ≤ row .q .most) ⌝ }
-    ensures { λ r. ⌜ (r ≡ wordsBy row p q) × (r ≤ 32) ⌝ }
-{
-    row.base + row.p.each * (p as usize) + row.q.each * (q as usize)
-}
-
-// The same of a whole record: its length is that of its counts.
+// How many words a whole record has: its length is that of its counts.
 fn words_in(b: &[u8], row: Row) -> usize
     requires { ⌜ Held row (now b) ⌝ }
     ensures { λ r. ⌜ r ≡ wordsBy row (shapeOf row (now (b .entry)) .p) (shapeOf row (now (b .entry)) .q) ⌝ }

@@ -1,4 +1,3 @@
-// The layout of a sheet's records: numbers in bytes, the table of record kinds, and the fields of one record.
+// The layout of a sheet's records: numbers in bytes, and the fields of one record by the row of its kind.
 pub mod fields;
 pub mod numbers;
-pub mod table;

@@ -5,11 +5,12 @@ use Prim.Native.Nat.{ℕ, zero, suc, _+_, _-_, _<_, _≤_}
 use native.Mathlib.Omega.{arith}
 use lib.ListN.{length, length-append}
 use borrow.Author.Tests.{lt-ltb, le-ltb}
-use Rattle.layout.specs.declared.table.Class.the-variants.{FormulaRecord}
+use Rattle.table.specs.declared.Class.the-variants.{FormulaRecord}
 use Rattle.layout.specs.Numbers.{number4}
 use Rattle.layout.specs.Fields.{formulaOf}
 use Rattle.layout.proofs.NumberLaws.{number4-more}
-use Rattle.layout.proofs.Rule.{ruled, held}
+use Rattle.table.proofs.Rule.{ruled}
+use Rattle.layout.proofs.Held.{held}
 use Rattle.records.specs.Faults.{frameFault, bytesAt, rowFor}
 use Rattle.records.specs.Sheets.{FormulaBytes, EachFormula, joined, SheetOf}
 use Rattle.records.proofs.Lengths.{laid}

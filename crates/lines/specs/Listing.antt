@@ -10,8 +10,8 @@ use Rattle.formula.specs.declared.Kind.{Kind}
 use Rattle.formula.specs.declared.Kind.the-variants.{Polynomial, Rational, Fraction, Root, NoFormula}
 use Rattle.formula.specs.declared.Formula.{Formula}
 use Rattle.layout.specs.Numbers.{number2, number4}
-use Rattle.layout.specs.Table.{rows, firstRow, rowOf}
-use Rattle.layout.specs.Fields.{firstCount, fieldOf, shape, shapeOf, wordsBy, words, padded, formula, formulaOf}
+use Rattle.table.specs.Table.{rows, firstRow, rowOf, wordsBy}
+use Rattle.layout.specs.Fields.{firstCount, fieldOf, shape, shapeOf, words, padded, formula, formulaOf}
 use Rattle.records.specs.Faults.{frameFault, bytesAt, rowFor, outside, countFault, sizeFault, lengthFault, startFault, orderFault, endFault, intervalFault, wordsFault, valueFault, innerFault, recordFault}
 use Rattle.records.specs.Walking.{foundBy, ending, recordStep, stepOf, walkFrom, walkOf}
 use Rattle.records.specs.declared.refusal.Refusal.{Refusal}

@@ -12,7 +12,6 @@ ghost use Rattle.lines.specs.Listing.{kindName, intervalText, lineOf, li
 use crate::text;
 use formula::Kind;
 use layout::numbers;
-use layout::table;
 use records::refusal::Refusal;
 use sheet::answers::FormulaCount;
 use sheet::reader;

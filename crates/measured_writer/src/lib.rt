@@ -1,10 +1,9 @@
 // The sheet writer that bench/ measures, as C calls it: in a library of its own, as the reader is in `measured`.
 ghost use mathlib.Core.Path.{_≡_};
 ghost use lib.ListN.{length};
-ghost use Rattle.writer.specs.Answers.{writtenLength, bufferAfter};
-ghost use Rattle.writer.specs.SheetWriter.{sheetWriting, sheetOf};
-use writer::answers::Writing;
-use writer::sheet_writer;
+ghost use Rattle.record_writer.specs.Answers.{writtenLength, bufferAfter};
+ghost use Rattle.sheet_writer.specs.SheetWriter.{sheetWriting, sheetOf};
+use record_writer::answers::Writing;
 
 #[no_mangle]
 pub extern "C" fn measured_write_sheet(run: &[u8], out: &mut [u8]) -> usize

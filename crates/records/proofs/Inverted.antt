@@ -9,8 +9,8 @@ use lib.Dec.{eqb, ltb}
 use lib.ListN.{length}
 use borrow.Author.Tests.{eqb-true, eqb-false, ltb-false}
 use Rattle.layout.specs.Fields.{countOf, formulaNumber, formulaOf}
-use Rattle.layout.specs.declared.table.Class.{Class}
-use Rattle.layout.specs.declared.table.Class.the-variants.{StartRecord, FormulaRecord, EndRecord, Unknown}
+use Rattle.table.specs.declared.Class.{Class}
+use Rattle.table.specs.declared.Class.the-variants.{StartRecord, FormulaRecord, EndRecord, Unknown}
 use Rattle.records.specs.Guard.{guard}
 use Rattle.records.specs.Faults.{frameFault, bytesAt, rowFor, placeFault, lengthFault, startFault, orderFault, endFault, innerFault, classFault, recordFault}
 use Rattle.records.specs.Walking.{refusal, refused, afterStart, afterFormula, ending, classStep, recordStep, stepOf}

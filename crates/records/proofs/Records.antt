@@ -8,7 +8,7 @@ use lib.ListN.{length, take, drop, length-append, take-append-drop}
 use lib.Seq.{drop-drop, drop-append-seam, take-append-seam}
 use borrow.Author.Tests.{le-ltb, eq-eqb}
 use Rattle.layout.specs.Numbers.{number4}
-use Rattle.layout.specs.declared.table.Class.{Class}
+use Rattle.table.specs.declared.Class.{Class}
 use Rattle.layout.proofs.NumberLaws.{number4-in, number4-drop, number4-more}
 use Rattle.records.specs.Faults.{frameFault, bytesAt, rowFor, placeFault, lengthFault, classFault, recordFault}
 use Rattle.records.specs.Walking.{classStep, recordStep, stepOf}

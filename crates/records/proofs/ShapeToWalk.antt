@@ -7,7 +7,7 @@ use native.Mathlib.Omega.{arith}
 use lib.Dec.{eqb, ltb}
 use lib.ListN.{length, length-append}
 use borrow.Author.Tests.{eq-eqb, ne-eqb, le-ltb}
-use Rattle.layout.specs.declared.table.Class.the-variants.{StartRecord, FormulaRecord, EndRecord}
+use Rattle.table.specs.declared.Class.the-variants.{StartRecord, FormulaRecord, EndRecord}
 use Rattle.layout.specs.Fields.{countOf, formulaNumber}
 use Rattle.records.specs.Faults.{placeFault, startFault, orderFault, endFault}
 use Rattle.records.specs.Walking.{refusal, foundBy, afterStart, afterFormula, ending, begin, stepOf, walkFrom, walkOf}

@@ -14,11 +14,12 @@ use Rattle.formula.specs.declared.Kind.{Kind}
 use Rattle.formula.specs.declared.Kind.the-variants.{Polynomial, Rational, Fraction, Root, NoFormula}
 use Rattle.formula.specs.declared.Shape.{Shape}
 use Rattle.formula.specs.Formula.{RootInterval, Sound}
-use Rattle.layout.specs.declared.table.Class.the-variants.{FormulaRecord}
-use Rattle.layout.specs.declared.table.Row.{Row}
-use Rattle.layout.specs.Fields.{Within, shapeOf, wordsBy, wordsOf, padded, Laid}
-use Rattle.layout.specs.Rule.{Ruled}
-use Rattle.layout.proofs.Rule.{few}
+use Rattle.table.specs.declared.Class.the-variants.{FormulaRecord}
+use Rattle.table.specs.declared.Row.{Row}
+use Rattle.layout.specs.Fields.{shapeOf, wordsOf, padded, Laid}
+use Rattle.table.specs.Table.{Within, wordsBy}
+use Rattle.table.specs.Rule.{Ruled}
+use Rattle.table.proofs.Rule.{few}
 use Rattle.layout.proofs.Padded.{length-words, length-padded}
 use Rattle.records.specs.Faults.{outside, wordFault, wordsFault, intervalFault, kindFault, valueFault}
 use Rattle.records.proofs.Chain.{passed, neither}

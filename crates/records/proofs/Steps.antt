@@ -8,9 +8,9 @@ use lib.ListN.{length, take, drop, length-take, length-drop}
 use borrow.Author.Tests.{eq-eqb, ne-eqb, ltb-false}
 use Rattle.layout.specs.Numbers.{number4}
 use Rattle.layout.specs.Fields.{formulaNumber, formulaOf}
-use Rattle.layout.specs.declared.table.Class.{Class}
-use Rattle.layout.specs.declared.table.Class.the-variants.{FormulaRecord}
-use Rattle.layout.specs.declared.table.Row.{Row}
+use Rattle.table.specs.declared.Class.{Class}
+use Rattle.table.specs.declared.Class.the-variants.{FormulaRecord}
+use Rattle.table.specs.declared.Row.{Row}
 use Rattle.records.specs.Faults.{frameFault, bytesAt, placeFault, lengthFault, orderFault, innerFault, formulaFault, classFault, recordFault}
 use Rattle.records.specs.Guard.{orElse}
 use Rattle.records.specs.declared.walking.Walk.{Walk}

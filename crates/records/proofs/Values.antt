@@ -14,7 +14,7 @@ use mir.Syntax.{w32}
 use mir.Val.{SFits}
 use borrow.Author.Tests.{lt-ltb, le-ltb, ltb-true, ltb-false, eqb-true}
 use Rattle.formula.specs.declared.Shape.{Shape}
-use Rattle.layout.specs.declared.table.Row.{Row}
+use Rattle.table.specs.declared.Row.{Row}
 use Rattle.layout.specs.Fields.{words, padded}
 use Rattle.records.specs.Guard.{orElse}
 use Rattle.layout.specs.Numbers.{word4}

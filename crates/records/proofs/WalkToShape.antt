@@ -8,7 +8,7 @@ use native.Mathlib.Omega.{arith}
 use lib.Dec.{eqb}
 use lib.ListN.{length, drop, drop-of-length-le}
 use borrow.Author.Tests.{eqb-true}
-use Rattle.layout.specs.declared.table.Class.the-variants.{StartRecord, FormulaRecord, EndRecord}
+use Rattle.table.specs.declared.Class.the-variants.{StartRecord, FormulaRecord, EndRecord}
 use Rattle.layout.specs.Fields.{countOf, formulaNumber}
 use Rattle.records.specs.Faults.{bytesAt, endFault}
 use Rattle.records.specs.Walking.{begin, afterStart, afterFormula, onStep, stepOf, walkFrom, walkOf}

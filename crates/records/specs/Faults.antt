@@ -14,13 +14,13 @@ use Rattle.formula.specs.declared.Shape.{Shape}
 use Rattle.formula.specs.declared.Formula.{Formula}
 use Rattle.admission.specs.Admission.{numberOf}
 use Rattle.formula.specs.Formula.{admissionOf}
-use Rattle.layout.specs.declared.table.Class.{Class}
-use Rattle.layout.specs.declared.table.Class.the-variants.{StartRecord, FormulaRecord, EndRecord, Unknown}
-use Rattle.layout.specs.declared.table.Field.{Field}
-use Rattle.layout.specs.declared.table.Row.{Row}
+use Rattle.table.specs.declared.Class.{Class}
+use Rattle.table.specs.declared.Class.the-variants.{StartRecord, FormulaRecord, EndRecord, Unknown}
+use Rattle.table.specs.declared.Field.{Field}
+use Rattle.table.specs.declared.Row.{Row}
 use Rattle.layout.specs.Numbers.{number2, number4}
-use Rattle.layout.specs.Table.{rows, firstRow, rowOf}
-use Rattle.layout.specs.Fields.{codeOf, countOf, formulaNumber, firstCount, fieldOf, shapeOf, wordsBy, lengthBy, formulaOf}
+use Rattle.table.specs.Table.{rows, firstRow, rowOf, wordsBy, lengthBy}
+use Rattle.layout.specs.Fields.{codeOf, countOf, formulaNumber, firstCount, fieldOf, shapeOf, formulaOf}
 use Rattle.records.specs.Guard.{orElse}
 use Rattle.records.specs.declared.walking.Walk.{Walk}
 

@@ -5,8 +5,8 @@ use mathlib.Core.Path.{_≡_}
 use mathlib.Core.List.{List, [], _∷_, _++_}
 use mathlib.Core.Logic.{_⊎_}
 use lib.ListN.{length}
-use Rattle.layout.specs.declared.table.Class.{Class}
-use Rattle.layout.specs.declared.table.Class.the-variants.{StartRecord, FormulaRecord, EndRecord}
+use Rattle.table.specs.declared.Class.{Class}
+use Rattle.table.specs.declared.Class.the-variants.{StartRecord, FormulaRecord, EndRecord}
 use Rattle.layout.specs.Numbers.{number4}
 use Rattle.layout.specs.Fields.{countOf, formulaNumber, formulaOf}
 use Rattle.records.specs.Faults.{rowFor, lengthFault, innerFault}

@@ -4,9 +4,9 @@ use mathlib.Core.List.{List}
 use mathlib.Core.Bool.{cond}
 use lib.Dec.{ltb, eqb}
 use lib.ListN.{length}
-use Rattle.layout.specs.declared.table.Class.{Class}
-use Rattle.layout.specs.declared.table.Class.the-variants.{StartRecord, FormulaRecord, EndRecord, Unknown}
-use Rattle.layout.specs.declared.table.Row.{Row}
+use Rattle.table.specs.declared.Class.{Class}
+use Rattle.table.specs.declared.Class.the-variants.{StartRecord, FormulaRecord, EndRecord, Unknown}
+use Rattle.table.specs.declared.Row.{Row}
 use Rattle.layout.specs.Fields.{countOf, formulaNumber}
 use Rattle.records.specs.Guard.{guard}
 use Rattle.records.specs.Faults.{frameFault, bytesAt, rowFor, recordFault}

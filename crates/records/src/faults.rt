@@ -4,9 +4,9 @@ ghost use mathlib.Core.List.{[]};
 ghost use Prim.Native.Nat.{_+_, _*_, _≤_};
 ghost use lib.ListN.{length};
 ghost use Rattle.formula.specs.Formula.{Sound};
-ghost use Rattle.layout.specs.Rule.{Ruled, Bare, Held};
-ghost use Rattle.layout.specs.declared.table.Class.the-variants.{FormulaRecord};
-ghost use Rattle.layout.specs.Fields.{shapeOf, formulaOf, countOf, words, padded};
+ghost use Rattle.table.specs.Rule.{Ruled, Bare};
+ghost use Rattle.layout.specs.Fields.{Held, shapeOf, formulaOf, countOf, words, padded};
+ghost use Rattle.table.specs.declared.Class.the-variants.{FormulaRecord};
 ghost use Rattle.records.specs.Guard.{orElse};
 ghost use Rattle.records.specs.Faults.{frameFault, placeFault, outside, countFault, sizeFault, lengthFault, startFault, orderFault, endFault, wordFault, wordsFault, intervalFault, kindFault, ownFault, valueFault, admissionFault, innerFault, formulaFault, recordFault};
 use crate::walking::Walk;
@@ -15,9 +15,9 @@ use formula::Kind;
 use formula::Shape;
 use layout::fields;
 use layout::numbers;
-use layout::table::Class;
-use layout::table::Field;
-use layout::table::Row;
+use table::Class;
+use table::Field;
+use table::Row;
 
 // Binary places of every word.
 const PLACES: u32 = 24;
@@ -101,7 +101,7 @@ pub fn size_fault(row: Row, shape: Shape, n: usize) -> u8
     if f != 0 {
         return f;
     }
-    if row.head + 4 * fields::words_by(row, shape.p, shape.q) != n {
+    if row.head + 4 * table::words_by(row, shape.p, shape.q) != n {
         return 2;
     }
     0
@@ -266,7 +266,7 @@ pub fn inner_fault(b: &[u8], row: Row, shape: Shape) -> u8
     if f != 0 {
         return f;
     }
-    let m = fields::words_by(row, shape.p, shape.q);
+    let m = table::words_by(row, shape.p, shape.q);
     let mut words = [0i32; 32];
     let g = read_words(b, row.head, m, &mut words);
     if g != 0 {

@@ -7,8 +7,7 @@ ghost use Rattle.records.specs.Walking.{refused, afterStart, foundBy, af
 use crate::faults;
 use crate::refusal::Refusal;
 use layout::numbers;
-use layout::table;
-use layout::table::Class;
+use table::Class;
 
 // Where the walk stands: the next record's place, the count that the start gave, how many formulas it has seen, the least
 // number that the next one may have; the number that is asked for, and the place of its record (0: none yet).

@@ -10,7 +10,7 @@ use Rattle.admission.specs.declared.Admission.{Admission}
 use Rattle.admission.specs.declared.Admission.the-variants.{Admitted, RangeLeft, DivisorZero}
 use Rattle.admission.specs.Admission.{numberOf}
 use Rattle.layout.specs.Fields.{codeOf, formulaNumber, shapeOf, loOf, hiOf, wordsOf, padded, formulaOf}
-use Rattle.layout.proofs.Rule.{ruled}
+use Rattle.table.proofs.Rule.{ruled}
 use Rattle.records.specs.Faults.{rowFor, valueFault, innerFault}
 use Rattle.records.specs.Walking.{refusal}
 use Rattle.records.specs.Sheets.{FormulaBytes, Has, SheetOf}

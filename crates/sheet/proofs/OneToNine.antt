@@ -17,11 +17,12 @@ use Rattle.admission.specs.declared.Admission.the-variants.{Admitted, RangeLeft
 use Rattle.formula.specs.declared.Formula.{Formula}
 use Rattle.admission.specs.Admission.{numberOf}
 use Rattle.formula.specs.Formula.{admissionOf}
-use Rattle.layout.specs.declared.table.Class.{Class}
-use Rattle.layout.specs.declared.table.Class.the-variants.{StartRecord, FormulaRecord, EndRecord, Unknown}
-use Rattle.layout.specs.declared.table.Field.{Field}
-use Rattle.layout.specs.declared.table.Row.{Row}
-use Rattle.layout.specs.Fields.{countOf, formulaNumber, shapeOf, lengthBy, formulaOf}
+use Rattle.table.specs.declared.Class.{Class}
+use Rattle.table.specs.declared.Class.the-variants.{StartRecord, FormulaRecord, EndRecord, Unknown}
+use Rattle.table.specs.declared.Field.{Field}
+use Rattle.table.specs.declared.Row.{Row}
+use Rattle.layout.specs.Fields.{countOf, formulaNumber, shapeOf, formulaOf}
+use Rattle.table.specs.Table.{lengthBy}
 use Rattle.layout.specs.Numbers.{number4}
 use Rattle.records.specs.Guard.{guard, orElse}
 use Rattle.records.specs.Faults.{frameFault, bytesAt, rowFor, placeFault, outside, countFault, sizeFault, lengthFault, startFault, orderFault, endFault, wordFault, wordsFault, intervalFault, kindFault, valueFault, places, innerFault, classFault, recordFault}

@@ -9,7 +9,7 @@ use native.Mathlib.Omega.{arith}
 use lib.Dec.{eqb}
 use lib.ListN.{length, length-append}
 use borrow.Author.Tests.{eqb-true, eqb-false, le-ltb}
-use Rattle.layout.specs.declared.table.Class.the-variants.{FormulaRecord}
+use Rattle.table.specs.declared.Class.the-variants.{FormulaRecord}
 use Rattle.layout.specs.Fields.{formulaNumber}
 use Rattle.records.specs.Faults.{bytesAt}
 use Rattle.records.specs.Walking.{walkOf}

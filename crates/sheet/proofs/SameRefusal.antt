@@ -6,9 +6,9 @@ use Prim.Native.Nat.{ℕ, zero, suc, _+_}
 use native.Mathlib.Omega.{arith}
 use lib.Dec.{eqb, ltb}
 use lib.ListN.{length}
-use Rattle.layout.specs.declared.table.Class.{Class}
-use Rattle.layout.specs.declared.table.Class.the-variants.{StartRecord, FormulaRecord, EndRecord, Unknown}
-use Rattle.layout.specs.declared.table.Row.{Row}
+use Rattle.table.specs.declared.Class.{Class}
+use Rattle.table.specs.declared.Class.the-variants.{StartRecord, FormulaRecord, EndRecord, Unknown}
+use Rattle.table.specs.declared.Row.{Row}
 use Rattle.records.specs.Guard.{guard}
 use Rattle.records.specs.Faults.{frameFault, bytesAt, rowFor, orderFault, endFault, classFault, recordFault}
 use Rattle.records.specs.Walking.{walk, refusal, refused, ending, classStep, recordStep, begin, onStep, stepOf, walkFrom, walkOf}

@@ -9,10 +9,10 @@ use lib.Dec.{ltb}
 use lib.ListN.{length, getD, take, replicate, length-append, length-replicate, getD-replicate, List·getD-append}
 use lib.Seq.{ext-getD, getD-take, length-take-le, getD-append-add}
 use borrow.Author.Tests.{ltb-true, ltb-false}
-use Rattle.layout.specs.declared.table.Class.the-variants.{EndRecord}
+use Rattle.table.specs.declared.Class.the-variants.{EndRecord}
 use Rattle.layout.specs.Numbers.{number2}
 use Rattle.layout.specs.Fields.{codeOf, shapeOf}
-use Rattle.layout.proofs.Rule.{end-length}
+use Rattle.table.proofs.Rule.{end-length}
 use Rattle.records.specs.Faults.{rowFor}
 use Rattle.records.specs.Sheets.{RecordOf, joined}
 use Rattle.sheet.specs.Reader.{Accepted, NotAccepted}

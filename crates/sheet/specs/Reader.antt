@@ -9,8 +9,8 @@ use Rattle.admission.specs.declared.Admission.the-variants.{Admitted}
 use Rattle.formula.specs.declared.Formula.{Formula}
 use Rattle.formula.specs.Formula.{Sound, admissionOf}
 use Rattle.layout.specs.Numbers.{number2, number4}
-use Rattle.layout.specs.Table.{rows, firstRow, rowOf}
-use Rattle.layout.specs.Fields.{firstCount, fieldOf, shape, shapeOf, wordsBy, padded, formula, formulaOf}
+use Rattle.table.specs.Table.{rows, firstRow, rowOf, wordsBy}
+use Rattle.layout.specs.Fields.{firstCount, fieldOf, shape, shapeOf, padded, formula, formulaOf}
 use Rattle.records.specs.Faults.{places, frameFault, bytesAt, rowFor, outside, countFault, sizeFault, lengthFault, startFault, recordFault}
 use Rattle.records.specs.Walking.{refusal, recordStep, stepOf, walkFrom, walkOf}
 use Rattle.records.specs.Sheets.{FormulaBytes}

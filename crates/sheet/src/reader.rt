@@ -13,7 +13,6 @@ use formula::Kind;
 use formula::Shape;
 use layout::fields;
 use layout::numbers;
-use layout::table;
 use records::refusal::Refusal;
 use records::walking;
 use records::walking::Walked;

@@ -3,11 +3,11 @@ use mathlib.Core.Path.{_≡_, refl}
 use Prim.Native.Nat.{ℕ}
 use Rattle.formula.specs.declared.Kind.the-variants.{NoFormula}
 use Rattle.formula.specs.declared.Formula.{Formula}
-use Rattle.layout.specs.declared.table.Class.the-variants.{FormulaRecord}
-use Rattle.layout.specs.Table.{rows, rowOf}
+use Rattle.table.specs.declared.Class.the-variants.{FormulaRecord}
+use Rattle.table.specs.Table.{rows, rowOf}
 use Rattle.layout.specs.Fields.{shape, formula}
-use Rattle.layout.proofs.TableLaws.{_also_, each-row}
-use Rattle.writer.proofs.KindLaws.{kind-of-row}
+use Rattle.table.proofs.TableLaws.{_also_, each-row}
+use Rattle.record_writer.proofs.KindLaws.{kind-of-row}
 use Rattle.valvepigeon.specs.Fields.{fieldsOf, formulaBy}
 
 pub fields-back : (f : Formula) → formulaBy (fieldsOf f) ≡ f

@@ -16,8 +16,8 @@ use Rattle.board.specs.declared.answers.Shown.{Shown}
 use Rattle.board.specs.declared.answers.Shown.the-variants.{Value, Refused as NotShown}
 use Rattle.board.specs.declared.answers.Interval.{Interval}
 use Rattle.board.specs.declared.answers.Interval.the-variants.{Between, Refused as NoInterval}
-use Rattle.writer.specs.declared.answers.Writing.{Writing}
-use Rattle.writer.specs.declared.answers.Writing.the-variants.{Written, Refused as NotWritten}
+use Rattle.record_writer.specs.declared.answers.Writing.{Writing}
+use Rattle.record_writer.specs.declared.answers.Writing.the-variants.{Written, Refused as NotWritten}
 use Rattle.valvepigeon.specs.declared.answers.CountedFormulas.{CountedFormulas}
 use Rattle.valvepigeon.specs.declared.answers.FoundFields.{FoundFields}
 use Rattle.valvepigeon.specs.declared.answers.WorkedWord.{WorkedWord}

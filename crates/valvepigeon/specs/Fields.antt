@@ -5,9 +5,9 @@ use mathlib.Core.List.{List, []}
 use lib.IntN.{ℤ, pos}
 use Rattle.formula.specs.declared.Kind.the-variants.{Root, NoFormula}
 use Rattle.formula.specs.declared.Formula.{Formula}
-use Rattle.layout.specs.Table.{rows, firstRow, rowOf}
+use Rattle.table.specs.Table.{rows, firstRow, rowOf}
 use Rattle.layout.specs.Fields.{shape, formula, padded}
-use Rattle.writer.specs.Kinds.{codeFor}
+use Rattle.record_writer.specs.Kinds.{codeFor}
 use Rattle.valvepigeon.specs.declared.answers.Fields.{Fields}
 
 abbrev pub fields : ℕ → ℕ → ℤ → ℤ → ℕ → ℕ → ℕ → List ℤ → Fields

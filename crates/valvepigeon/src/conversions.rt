@@ -11,10 +11,10 @@ use crate::fields;
 use board::answers::Evaluation;
 use board::answers::Interval;
 use board::answers::Shown;
+use record_writer::answers::Writing;
 use sheet::answers::FormulaCount;
 use sheet::answers::Found;
 use sheet::answers::Reading;
-use writer::answers::Writing;
 
 pub fn counted(answer: FormulaCount) -> CountedFormulas
     ensures { λ r. ⌜ r ≡ counted answer ⌝ }

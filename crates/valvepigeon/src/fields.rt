@@ -4,7 +4,6 @@ ghost use Rattle.valvepigeon.specs.Fields.{fieldsOf, noFields, formulaBy
 use crate::answers::Fields;
 use formula::Formula;
 use formula::Shape;
-use layout::table;
 
 pub fn fields_of(f: Formula) -> Fields
     ensures { λ r. ⌜ r ≡ fieldsOf f ⌝ }
@@ -13,7 +12,7 @@ pub fn fields_of(f: Formula) -> Fields
     let kind = shape.kind;
     let words = f.words;
     Fields {
-        kind: writer::code_for(kind),
+        kind: record_writer::code_for(kind),
         number: f.number,
         lo: f.lo,
         hi: f.hi,

@@ -3,9 +3,9 @@ ghost use mathlib.Core.Path.{_≡_};
 ghost use lib.ListN.{length};
 ghost use Rattle.sheet.specs.Reader.{formulaCount, formulaRead};
 ghost use Rattle.board.specs.Board.{evaluated, evaluatedDouble};
-ghost use Rattle.writer.specs.Answers.{bufferAfter};
-ghost use Rattle.writer.specs.RecordWriter.{recordWriting, bytesOf};
-ghost use Rattle.writer.specs.SheetWriter.{sheetWriting, sheetOf};
+ghost use Rattle.record_writer.specs.Answers.{bufferAfter};
+ghost use Rattle.record_writer.specs.RecordWriter.{recordWriting, bytesOf};
+ghost use Rattle.sheet_writer.specs.SheetWriter.{sheetWriting, sheetOf};
 ghost use Rattle.valvepigeon.specs.Fields.{formulaBy};
 ghost use Rattle.valvepigeon.specs.Answers.{counted, found, worked, ShownBy, SpannedBy, written};
 
@@ -21,8 +21,6 @@ use answers::ShownValue;
 use answers::WorkedWord;
 use answers::WrittenLength;
 use sheet::reader;
-use writer::record_writer;
-use writer::sheet_writer;
 
 #[no_mangle]
 pub extern "C" fn vp_count(sheet: &[u8]) -> CountedFormulas

@@ -1,7 +1,8 @@
 -- `board::answer_of` meets its contract.
 use borrow.Author.Needs.{needs}
 use mir.Facts.{toZ-ofZ}
-use Rattle.layout.proofs.Rule.{ruled, held}
+use Rattle.table.proofs.Rule.{ruled}
+use Rattle.layout.proofs.Held.{held}
 use Rattle.records.proofs.Lengths.{laid}
 use Rattle.sheet.proofs.FormulasGiven.{fit}
 use Rattle.board.proofs.answer_of.Statement.{statement}

@@ -2,9 +2,9 @@
 use borrow.Author.Needs.{needs}
 use mathlib.Core.Path.{sym, ap, _∙_}
 use denote.Ref.{now}
-use Rattle.writer.specs.Answers.{writtenLength, bufferAfter}
-use Rattle.writer.specs.SheetWriter.{sheetOf}
-use Rattle.writer.specs.declared.answers.Writing.{Writing}
+use Rattle.record_writer.specs.Answers.{writtenLength, bufferAfter}
+use Rattle.sheet_writer.specs.SheetWriter.{sheetOf}
+use Rattle.record_writer.specs.declared.answers.Writing.{Writing}
 use Rattle.measured_writer.proofs.measured_write_sheet.Statement.{statement}
 use Rattle.measured_writer.proofs.measured_write_sheet.Tie as tie
 

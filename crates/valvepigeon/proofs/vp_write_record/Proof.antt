@@ -4,9 +4,9 @@ use mathlib.Core.Path.{_≡_, ap, ap₂, _∙_}
 use lib.ListN.{length}
 use denote.Ref.{now}
 use Rattle.formula.specs.declared.Formula.{Formula}
-use Rattle.writer.specs.Answers.{bufferAfter}
-use Rattle.writer.specs.RecordWriter.{recordWriting, bytesOf}
-use Rattle.writer.specs.declared.answers.Writing.{Writing}
+use Rattle.record_writer.specs.Answers.{bufferAfter}
+use Rattle.record_writer.specs.RecordWriter.{recordWriting, bytesOf}
+use Rattle.record_writer.specs.declared.answers.Writing.{Writing}
 use Rattle.valvepigeon.specs.Fields.{formulaBy}
 use Rattle.valvepigeon.specs.Answers.{written}
 use Rattle.valvepigeon.proofs.vp_write_record.Statement.{statement}

@@ -3,7 +3,7 @@ use borrow.Author.Tests.{lt-ltb, le-ltb}
 use mathlib.Core.Path.{_≡_, _∙_, sym}
 use native.Mathlib.Omega.{arith}
 use denote.Ref.{now}
-use Rattle.layout.proofs.Rule.{held}
+use Rattle.layout.proofs.Held.{held}
 use Rattle.records.specs.Faults.{lengthFault}
 use Rattle.records.proofs.Chain.{stop, pass}
 use Rattle.records.proofs.Lengths.{laid}

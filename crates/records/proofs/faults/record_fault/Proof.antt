@@ -2,8 +2,8 @@ use borrow.Author.Needs.{needs}
 use mathlib.Core.Path.{_≡_, _∙_, refl, sym, ap, subst}
 use Prim.Native.Nat.{ℕ}
 use denote.Ref.{now}
-use Rattle.layout.specs.declared.table.Class.{Class}
-use Rattle.layout.specs.Rule.{Framing}
+use Rattle.table.specs.declared.Class.{Class}
+use Rattle.table.specs.Rule.{Framing}
 use Rattle.records.specs.Guard.{orElse}
 use Rattle.records.specs.Faults.{lengthFault, classFault, recordFault}
 use Rattle.records.proofs.Chain.{stop, pass}

@@ -2,9 +2,9 @@ use borrow.Author.Needs.{needs}
 use mathlib.Core.Path.{_≡_, _∙_, sym, ap}
 use native.Mathlib.Omega.{arith}
 use denote.Ref.{now}
-use Rattle.layout.specs.declared.table.Class.{Class}
-use Rattle.layout.specs.declared.table.Row.{Row}
-use Rattle.layout.proofs.Rule.{ruled}
+use Rattle.table.specs.declared.Class.{Class}
+use Rattle.table.specs.declared.Row.{Row}
+use Rattle.table.proofs.Rule.{ruled}
 use Rattle.records.specs.Faults.{rowFor}
 use Rattle.records.specs.Walking.{refused, classStep, recordStep}
 use Rattle.records.specs.declared.walking.Step.the-variants.{More, Done}

@@ -1,5 +1,6 @@
 use borrow.Author.Needs.{needs}
-use Rattle.layout.proofs.Rule.{ruled, held}
+use Rattle.table.proofs.Rule.{ruled}
+use Rattle.layout.proofs.Held.{held}
 use Rattle.records.proofs.Lengths.{laid}
 use Rattle.sheet.proofs.reader.formula_in.Statement.{statement}
 use Rattle.sheet.proofs.reader.formula_in.Tie as tie

@@ -1,0 +1,3 @@
+-- Laws, lowest first.
+pub mod TableLaws
+pub mod Rule

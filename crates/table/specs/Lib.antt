@@ -1,0 +1,3 @@
+-- The fixed table of document 01, and its rule.
+pub mod Table
+pub mod Rule

@@ -1,6 +1,0 @@
-pub mod Answers
-pub mod Kinds
-pub mod Bytes
-pub mod RecordWriter
-pub mod Runs
-pub mod SheetWriter
