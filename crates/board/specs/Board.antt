@@ -13,7 +13,7 @@ use Rattle.door.specs.declared.answer.Taken.the-variants.{Word, NoWord, NotFini
 use Rattle.door.specs.Taken.{takenOf, refusalOf}
 use Rattle.door.specs.Exact.{Exactly}
 use Rattle.records.specs.Faults.{places}
-use Rattle.records.specs.Walking.{refusal}
+use Rattle.records.specs.Guard.{refusal}
 use Rattle.sheet.specs.Reader.{formulaRead}
 use Rattle.sheet.specs.declared.answers.Found.{Found}
 use Rattle.sheet.specs.declared.answers.Found.the-variants.{Given, Refused as Withheld}

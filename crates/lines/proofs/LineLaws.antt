@@ -14,7 +14,7 @@ use Rattle.layout.proofs.Held.{held}
 use Rattle.records.specs.Faults.{frameFault, bytesAt, rowFor}
 use Rattle.records.specs.Sheets.{FormulaBytes, EachFormula, joined, SheetOf}
 use Rattle.records.proofs.Lengths.{laid}
-use Rattle.records.proofs.Records.{frame-there, bytes-there}
+use Rattle.walking.proofs.Records.{frame-there, bytes-there}
 use Rattle.records.proofs.Steps.{framed, length-bytesAt}
 use Rattle.sheet.specs.declared.answers.FormulaCount.{FormulaCount}
 use Rattle.sheet.specs.declared.answers.FormulaCount.the-variants.{Count}

@@ -13,7 +13,7 @@ use Rattle.layout.specs.Numbers.{number2, number4}
 use Rattle.table.specs.Table.{rows, firstRow, rowOf, wordsBy}
 use Rattle.layout.specs.Fields.{firstCount, fieldOf, shape, shapeOf, words, padded, formula, formulaOf}
 use Rattle.records.specs.Faults.{frameFault, bytesAt, rowFor, outside, countFault, sizeFault, lengthFault, startFault, orderFault, endFault, intervalFault, wordsFault, valueFault, innerFault, recordFault}
-use Rattle.records.specs.Walking.{foundBy, ending, recordStep, stepOf, walkFrom, walkOf}
+use Rattle.walking.specs.Walking.{foundBy, ending, recordStep, stepOf, walkFrom, walkOf}
 use Rattle.records.specs.declared.refusal.Refusal.{Refusal}
 use Rattle.sheet.specs.declared.answers.FormulaCount.{FormulaCount}
 use Rattle.sheet.specs.declared.answers.FormulaCount.the-variants.{Count, Refused}

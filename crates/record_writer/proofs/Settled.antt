@@ -1,5 +1,5 @@
 -- Promise: the record writer settles its result and its buffer: two results, and two later contents of the buffer, that satisfy
--- its contract are equal. So does each of the three small functions that others call.
+-- its contract are equal.
 use mathlib.Core.Path.{_≡_, sym, ap, _∙_}
 use contract.Lifetimes.{Lfts}
 use denote.Ref.{now}
@@ -11,21 +11,11 @@ use Rattle.record_writer.specs.RecordWriter.{bytesOf}
 use Rattle.record_writer.specs.declared.answers.Writing.{Writing}
 use Rattle.record_writer.proofs.answers.refused_by.Kinds as refused-kinds
 use Rattle.record_writer.proofs.answers.refused_by.Reads as refused-reads
-use Rattle.record_writer.proofs.kinds.only_formula.Kinds as only-kinds
-use Rattle.record_writer.proofs.kinds.only_formula.Reads as only-reads
-use Rattle.record_writer.proofs.kinds.code_for.Kinds as code-kinds
-use Rattle.record_writer.proofs.kinds.code_for.Reads as code-reads
 use Rattle.record_writer.proofs.write_record.Kinds as record-kinds
 use Rattle.record_writer.proofs.write_record.Reads as record-reads
 
 pub refused-by-settled : Settled refused-kinds.ps refused-kinds.r refused-reads.Learnt
 refused-by-settled κs a x y s t p q = p ∙ sym q
-
-pub only-formula-settled : Settled only-kinds.ps only-kinds.r only-reads.Learnt
-only-formula-settled κs a x y s t p q = p ∙ sym q
-
-pub code-for-settled : Settled code-kinds.ps code-kinds.r code-reads.Learnt
-code-for-settled κs a x y s t p q = p ∙ sym q
 
 pub write-record-settled : Settled record-kinds.ps record-kinds.r record-reads.Learnt
 write-record-settled κs a x y s t p q = p .0 ∙ sym (q .0)

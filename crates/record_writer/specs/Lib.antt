@@ -1,4 +1,2 @@
 pub mod Answers
-pub mod Kinds
-pub mod Bytes
 pub mod RecordWriter

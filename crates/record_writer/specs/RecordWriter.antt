@@ -14,8 +14,8 @@ use Rattle.layout.specs.Fields.{shape, formula, padded}
 use Rattle.records.specs.Guard.{guard, orElse}
 use Rattle.records.specs.Faults.{outside, countFault, intervalFault, wordsFault, valueFault, innerFault}
 use Rattle.record_writer.specs.Answers.{refusedBy}
-use Rattle.record_writer.specs.Kinds.{onlyFormula, kept, plainShape, plainBy, rowBy, plain}
-use Rattle.record_writer.specs.Bytes.{headBytes, fieldBytes, fieldsBytes, wordBytes, recordBytes}
+use Rattle.record_bytes.specs.Kinds.{onlyFormula, kept, plainShape, plainBy, rowBy, plain}
+use Rattle.record_bytes.specs.Bytes.{headBytes, fieldBytes, fieldsBytes, wordBytes, recordBytes}
 use Rattle.record_writer.specs.declared.answers.Writing.{Writing}
 use Rattle.record_writer.specs.declared.answers.Writing.the-variants.{Written}
 

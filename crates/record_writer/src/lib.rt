@@ -3,17 +3,15 @@ ghost use mathlib.Core.Path.{_≡_};
 ghost use lib.ListN.{length};
 ghost use Rattle.records.specs.Faults.{innerFault};
 ghost use Rattle.record_writer.specs.Answers.{bufferAfter};
-ghost use Rattle.record_writer.specs.Bytes.{Ready};
+ghost use Rattle.record_bytes.specs.Bytes.{Ready};
 ghost use Rattle.record_writer.specs.RecordWriter.{kindAndCounts, valuesAndRoom, recordWriting, bytesOf};
 
 pub mod answers;
-mod bytes;
-mod kinds;
 
 use answers::Writing;
 use formula::Formula;
-pub use kinds::code_for;
-pub use kinds::only_formula;
+use record_bytes::bytes;
+use record_bytes::kinds;
 use records::faults;
 use table::Row;
 

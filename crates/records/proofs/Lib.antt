@@ -4,8 +4,3 @@ pub mod Lengths
 pub mod Values
 pub mod Soundness
 pub mod Steps
-pub mod Inverted
-pub mod Going
-pub mod Records
-pub mod WalkToShape
-pub mod ShapeToWalk

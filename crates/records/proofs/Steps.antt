@@ -13,7 +13,7 @@ use Rattle.table.specs.declared.Class.the-variants.{FormulaRecord}
 use Rattle.table.specs.declared.Row.{Row}
 use Rattle.records.specs.Faults.{frameFault, bytesAt, placeFault, lengthFault, orderFault, innerFault, formulaFault, classFault, recordFault}
 use Rattle.records.specs.Guard.{orElse}
-use Rattle.records.specs.declared.walking.Walk.{Walk}
+use Rattle.records.specs.declared.walk.Walk.{Walk}
 use Rattle.records.proofs.Chain.{passed, neither}
 
 pub record Framed (s : List ℕ) (at : ℕ) : Type 0 where

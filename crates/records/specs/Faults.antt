@@ -22,7 +22,7 @@ use Rattle.layout.specs.Numbers.{number2, number4}
 use Rattle.table.specs.Table.{rows, firstRow, rowOf, wordsBy, lengthBy}
 use Rattle.layout.specs.Fields.{codeOf, countOf, formulaNumber, firstCount, fieldOf, shapeOf, formulaOf}
 use Rattle.records.specs.Guard.{orElse}
-use Rattle.records.specs.declared.walking.Walk.{Walk}
+use Rattle.records.specs.declared.walk.Walk.{Walk}
 
 -- fewer than 4 bytes left (1); length outside 8..120 (2); fewer bytes than the length (1)
 unfoldable pub frameFault : List ℕ → ℕ → ℕ

@@ -9,7 +9,7 @@ ghost use Rattle.layout.specs.Fields.{Held, shapeOf, formulaOf, countOf, words,
 ghost use Rattle.table.specs.declared.Class.the-variants.{FormulaRecord};
 ghost use Rattle.records.specs.Guard.{orElse};
 ghost use Rattle.records.specs.Faults.{frameFault, placeFault, outside, countFault, sizeFault, lengthFault, startFault, orderFault, endFault, wordFault, wordsFault, intervalFault, kindFault, ownFault, valueFault, admissionFault, innerFault, formulaFault, recordFault};
-use crate::walking::Walk;
+use crate::walk::Walk;
 use admission::Admission;
 use formula::Kind;
 use formula::Shape;

@@ -6,15 +6,15 @@ use Prim.Native.Nat.{ℕ, _+_}
 use native.Mathlib.Omega.{arith}
 use lib.ListN.{length}
 use borrow.Author.Tests.{le-ltb}
-use Rattle.records.specs.Walking.{walkOf}
+use Rattle.walking.specs.Walking.{walkOf}
 use Rattle.records.specs.Sheets.{SheetOf}
 use Rattle.sheet.specs.Reader.{countNumber, countValue, formulaCount, noNumber, countAnswer, Accepted}
 use Rattle.sheet.specs.declared.answers.FormulaCount.the-variants.{Count}
-use Rattle.records.specs.declared.walking.Walked.{Walked}
-use Rattle.records.specs.declared.walking.Walked.the-variants.{Whole}
+use Rattle.walking.specs.declared.Walked.{Walked}
+use Rattle.walking.specs.declared.Walked.the-variants.{Whole}
 use Rattle.sheet.proofs.OneToNine.{accepted}
-use Rattle.records.proofs.WalkToShape.{shape}
-use Rattle.records.proofs.ShapeToWalk.{placeIn, walked}
+use Rattle.walking.proofs.WalkToShape.{shape}
+use Rattle.walking.proofs.ShapeToWalk.{placeIn, walked}
 
 pub accepted-shape : (s : List ℕ) → Accepted s → SheetOf (countValue (formulaCount s)) s
 unfolding formulaCount

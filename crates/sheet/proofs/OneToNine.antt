@@ -24,15 +24,15 @@ use Rattle.table.specs.declared.Row.{Row}
 use Rattle.layout.specs.Fields.{countOf, formulaNumber, shapeOf, formulaOf}
 use Rattle.table.specs.Table.{lengthBy}
 use Rattle.layout.specs.Numbers.{number4}
-use Rattle.records.specs.Guard.{guard, orElse}
+use Rattle.records.specs.Guard.{guard, orElse, refusal}
 use Rattle.records.specs.Faults.{frameFault, bytesAt, rowFor, placeFault, outside, countFault, sizeFault, lengthFault, startFault, orderFault, endFault, wordFault, wordsFault, intervalFault, kindFault, valueFault, places, innerFault, classFault, recordFault}
-use Rattle.records.specs.Walking.{refusal, refused, ending, classStep, recordStep, begin, onStep, stepOf, walkFrom, walkOf}
+use Rattle.walking.specs.Walking.{refused, ending, classStep, recordStep, begin, onStep, stepOf, walkFrom, walkOf}
 use Rattle.sheet.specs.Reader.{countNumber, formulaCount, noNumber, countAnswer, foundNumber, withheld, placeAnswer, formulaPlace, readAt, formulaRead, Accepted, NotAccepted}
-use Rattle.records.specs.declared.walking.Walk.{Walk}
-use Rattle.records.specs.declared.walking.Walked.{Walked}
-use Rattle.records.specs.declared.walking.Walked.the-variants.{Whole, Broken}
-use Rattle.records.specs.declared.walking.Step.{Step}
-use Rattle.records.specs.declared.walking.Step.the-variants.{More, Done}
+use Rattle.records.specs.declared.walk.Walk.{Walk}
+use Rattle.walking.specs.declared.Walked.{Walked}
+use Rattle.walking.specs.declared.Walked.the-variants.{Whole, Broken}
+use Rattle.walking.specs.declared.Step.{Step}
+use Rattle.walking.specs.declared.Step.the-variants.{More, Done}
 
 -- ---- no fault is above 8
 

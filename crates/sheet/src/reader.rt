@@ -14,8 +14,7 @@ use formula::Shape;
 use layout::fields;
 use layout::numbers;
 use records::refusal::Refusal;
-use records::walking;
-use records::walking::Walked;
+use walking::Walked;
 
 // Above every number: none is asked for.
 const NO_NUMBER: u32 = 65536;

@@ -6,7 +6,7 @@ use native.Mathlib.Numerals.{add-one}
 use native.Mathlib.Omega.{arith}
 use lib.ListN.{length, getD, take, set, length-append}
 use lib.Seq.{sets, take-suc, length-take-le}
-use Rattle.record_writer.proofs.Stores.{next, length-bytes2, length-bytes4}
+use Rattle.record_bytes.proofs.Stores.{next, length-bytes2, length-bytes4}
 use Rattle.sheet_writer.specs.SheetWriter.{boundBytes, sheetBytes}
 
 pub length-bound : (code count : ℕ) → length (boundBytes code count) ≡ 8

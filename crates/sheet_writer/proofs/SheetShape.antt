@@ -10,7 +10,7 @@ use Rattle.layout.specs.Numbers.{number2, number4, bytes2, bytes4}
 use Rattle.table.specs.Table.{rows, firstRow, rowOf, wordsBy}
 use Rattle.layout.specs.Fields.{countOf, firstCount, fieldOf, shapeOf}
 use Rattle.layout.proofs.NumberLaws.{number2-at}
-use Rattle.record_writer.proofs.Stores.{length-bytes2, length-bytes4}
+use Rattle.record_bytes.proofs.Stores.{length-bytes2, length-bytes4}
 use Rattle.records.specs.Faults.{outside, countFault, sizeFault, lengthFault}
 use Rattle.records.specs.Sheets.{RecordOf, EachFormula, Rising, joined, SheetOf}
 use Rattle.sheet_writer.specs.SheetWriter.{boundBytes, sheetBytes, sheetWriting}

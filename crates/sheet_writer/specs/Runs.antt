@@ -5,14 +5,14 @@ use mathlib.Core.List.{List}
 use mathlib.Core.Bool.{cond}
 use lib.Dec.{ltb}
 use lib.ListN.{length}
-use Rattle.records.specs.Guard.{guard, orElse}
+use Rattle.records.specs.Guard.{guard, orElse, refusal}
 use Rattle.records.specs.Faults.{frameFault, bytesAt, rowFor, recordFault}
-use Rattle.records.specs.Walking.{walk, refusal, afterFormula}
+use Rattle.walking.specs.Walking.{walk, afterFormula}
 use Rattle.sheet.specs.Reader.{noNumber}
-use Rattle.records.specs.declared.walking.Walk.{Walk}
+use Rattle.records.specs.declared.walk.Walk.{Walk}
 use Rattle.sheet.specs.declared.answers.FormulaCount.{FormulaCount}
 use Rattle.sheet.specs.declared.answers.FormulaCount.the-variants.{Count, Refused}
-use Rattle.record_writer.specs.Kinds.{onlyFormula}
+use Rattle.record_bytes.specs.Kinds.{onlyFormula}
 
 -- the run begins at 8; it may have 64 records, and no number is asked for
 abbrev pub beginRun : Walk

@@ -9,7 +9,7 @@ use Rattle.layout.specs.Numbers.{number2, number4, bytes2, bytes4}
 use Rattle.table.specs.Table.{rows, firstRow, rowOf, wordsBy}
 use Rattle.layout.specs.Fields.{firstCount, fieldOf, shapeOf, words, padded, formulaOf}
 use Rattle.records.specs.Faults.{frameFault, bytesAt, outside, countFault, sizeFault, lengthFault, orderFault, intervalFault, wordsFault, valueFault, innerFault, recordFault}
-use Rattle.records.specs.Walking.{refusal}
+use Rattle.records.specs.Guard.{refusal}
 use Rattle.sheet.specs.declared.answers.FormulaCount.{FormulaCount}
 use Rattle.sheet.specs.declared.answers.FormulaCount.the-variants.{Count, Refused as Broken}
 use Rattle.sheet.specs.Reader.{countValue}

@@ -6,14 +6,14 @@ ghost use Rattle.table.specs.Rule.{Ruled};
 ghost use Rattle.table.specs.declared.Class.the-variants.{FormulaRecord};
 ghost use Rattle.records.specs.Guard.{orElse};
 ghost use Rattle.records.specs.Faults.{lengthFault, formulaFault};
-ghost use Rattle.records.specs.Walking.{afterFormula};
+ghost use Rattle.walking.specs.Walking.{afterFormula};
 ghost use Rattle.sheet_writer.specs.Runs.{runRecord, runRecordFault, runFault, runCount, Going};
 use layout::fields;
 use layout::numbers;
+use record_bytes::kinds;
 use records::faults;
 use records::refusal::Refusal;
-use records::walking;
-use records::walking::Walk;
+use records::walk::Walk;
 use sheet::answers::FormulaCount;
 use table::Row;
 
@@ -48,7 +48,7 @@ fn record_fault(b: &[u8], w: Walk) -> u8
 {
     let row = table::row_of(numbers::get2(b, 4));
     let class = row.class;
-    let f = record_writer::only_formula(class);
+    let f = kinds::only_formula(class);
     if f != 0 {
         return f;
     }

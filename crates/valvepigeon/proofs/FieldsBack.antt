@@ -7,7 +7,7 @@ use Rattle.table.specs.declared.Class.the-variants.{FormulaRecord}
 use Rattle.table.specs.Table.{rows, rowOf}
 use Rattle.layout.specs.Fields.{shape, formula}
 use Rattle.table.proofs.TableLaws.{_also_, each-row}
-use Rattle.record_writer.proofs.KindLaws.{kind-of-row}
+use Rattle.record_bytes.proofs.KindLaws.{kind-of-row}
 use Rattle.valvepigeon.specs.Fields.{fieldsOf, formulaBy}
 
 pub fields-back : (f : Formula) → formulaBy (fieldsOf f) ≡ f

@@ -4,6 +4,7 @@ ghost use Rattle.valvepigeon.specs.Fields.{fieldsOf, noFields, formulaBy
 use crate::answers::Fields;
 use formula::Formula;
 use formula::Shape;
+use record_bytes::kinds;
 
 pub fn fields_of(f: Formula) -> Fields
     ensures { λ r. ⌜ r ≡ fieldsOf f ⌝ }
@@ -12,7 +13,7 @@ pub fn fields_of(f: Formula) -> Fields
     let kind = shape.kind;
     let words = f.words;
     Fields {
-        kind: record_writer::code_for(kind),
+        kind: kinds::code_for(kind),
         number: f.number,
         lo: f.lo,
         hi: f.hi,

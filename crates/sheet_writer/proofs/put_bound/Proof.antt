@@ -5,7 +5,7 @@ use native.Mathlib.Omega.{arith}
 use lib.ListN.{length-append}
 use denote.Ref.{now}
 use Rattle.layout.specs.Numbers.{bytes2, bytes4}
-use Rattle.record_writer.proofs.Stores.{next, length-bytes2, length-bytes4}
+use Rattle.record_bytes.proofs.Stores.{next, length-bytes2, length-bytes4}
 use Rattle.sheet_writer.specs.SheetWriter.{boundBytes}
 use Rattle.sheet_writer.proofs.put_bound.Statement.{statement}
 use Rattle.sheet_writer.proofs.put_bound.Tie as tie

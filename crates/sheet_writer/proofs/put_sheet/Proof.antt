@@ -4,7 +4,7 @@ use Prim.Native.Nat.{_+_}
 use native.Mathlib.Omega.{arith}
 use lib.ListN.{length, length-append}
 use denote.Ref.{now}
-use Rattle.record_writer.proofs.Stores.{next}
+use Rattle.record_bytes.proofs.Stores.{next}
 use Rattle.sheet_writer.specs.SheetWriter.{boundBytes}
 use Rattle.sheet_writer.proofs.SheetLaws.{length-bound}
 use Rattle.sheet_writer.proofs.put_sheet.Statement.{statement}

@@ -1,7 +1,7 @@
 use mathlib.Core.Path.{_∙_, sym, subst}
 use Prim.Native.Nat.{_-_, _<_}
 use denote.Ref.{now}
-use Rattle.records.specs.declared.walking.Walk.{Walk}
+use Rattle.records.specs.declared.walk.Walk.{Walk}
 use Rattle.sheet_writer.proofs.RunLaws.{Goes, begins, ends, breaks, goes-on}
 use Rattle.sheet_writer.proofs.runs.run_count.Statement.{statement}
 use Rattle.sheet_writer.proofs.runs.run_count.Tie as tie

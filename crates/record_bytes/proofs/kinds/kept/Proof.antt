@@ -1,0 +1,15 @@
+use borrow.Author.Tests.{eq-eqb, ne-eqb}
+use Rattle.record_bytes.specs.Kinds.{kept}
+use Rattle.record_bytes.proofs.kinds.kept.Statement.{statement}
+use Rattle.record_bytes.proofs.kinds.kept.Tie as tie
+
+returns : tie.Need-returns
+unfolding kept
+returns c = simp (eq-eqb _ _ (c .if1 .taken))
+
+returns-2 : tie.Need-returns-2
+unfolding kept
+returns-2 c = simp (ne-eqb _ _ (c .if1 .left))
+
+pub kept-spec : {M : Type 1} → statement M
+kept-spec = tie.close (tie.spec returns returns-2)
