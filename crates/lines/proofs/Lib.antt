@@ -1,7 +1,4 @@
--- Laws.
-pub mod TextLaws
+-- Laws, then promises.
 pub mod LineLaws
--- Promises.
-pub mod DecimalBack
 pub mod EachLine
 pub mod Settled

@@ -20,7 +20,7 @@ use Rattle.sheet.specs.declared.answers.FormulaCount.{FormulaCount}
 use Rattle.sheet.specs.declared.answers.FormulaCount.the-variants.{Count}
 use Rattle.sheet.specs.Reader.{countNumber, countValue, formulaCount, formulaAt, Standing}
 use Rattle.sheet.proofs.AcceptedShape.{accepted-shape}
-use Rattle.lines.specs.Text.{text}
+use Rattle.text.specs.Text.{text}
 use Rattle.lines.specs.Listing.{lineOf, linesFrom, linesOf, listingBy, listing}
 
 -- ---- n formula records stand one behind the other, from a place on

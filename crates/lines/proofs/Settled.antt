@@ -9,8 +9,8 @@ use borrow.Fn.Kinds.{Dens, endedOf, resT}
 use denote.Triple.Clauses.{AtExit}
 use Rattle.whole.proofs.Settled.{Settled}
 use Rattle.lines.specs.Listing.{listing}
-use Rattle.lines.proofs.listing.list_sheet.Kinds as kinds
-use Rattle.lines.proofs.listing.list_sheet.Reads as reads
+use Rattle.lines.proofs.list_sheet.Kinds as kinds
+use Rattle.lines.proofs.list_sheet.Reads as reads
 
 pub list-sheet-settled : Settled kinds.ps kinds.r reads.Learnt
 list-sheet-settled κs a x y s t p q = p .0 .0 ∙ sym (q .0 .0)

@@ -18,7 +18,7 @@ use Rattle.records.specs.declared.refusal.Refusal.{Refusal}
 use Rattle.sheet.specs.declared.answers.FormulaCount.{FormulaCount}
 use Rattle.sheet.specs.declared.answers.FormulaCount.the-variants.{Count, Refused}
 use Rattle.sheet.specs.Reader.{formulaCount, formulaAt}
-use Rattle.lines.specs.Text.{text, digitsBy, decimal, signed}
+use Rattle.text.specs.Text.{text, digitsBy, decimal, signed}
 
 abbrev pub kindName : Kind → List ℕ
 kindName Polynomial = text "polynomial"

@@ -1,11 +1,10 @@
 // Reads a sheet from standard input and writes its listing to standard output.
-use lines::listing;
 
 fn main() {
     // One byte more than the longest sheet, to see what is too long.
     let mut sheet = [0u8; 8193];
     let n = io::read_full(0, &mut sheet);
     let mut text = [0u8; 4096];
-    let k = listing::list_sheet(&sheet[..n], &mut text);
+    let k = lines::list_sheet(&sheet[..n], &mut text);
     io::write_all(1, &text[..k]);
 }

@@ -1,8 +1,8 @@
 use borrow.Author.Needs.{needs}
 use native.Mathlib.Omega.{arith}
-use Rattle.lines.proofs.TextLaws.{nothing}
-use Rattle.lines.proofs.listing.put_kind.Statement.{statement}
-use Rattle.lines.proofs.listing.put_kind.Tie as tie
+use Rattle.text.proofs.TextLaws.{nothing}
+use Rattle.lines.proofs.put_kind.Statement.{statement}
+use Rattle.lines.proofs.put_kind.Tie as tie
 
 returns : tie.Need-returns
 returns c =

@@ -5,10 +5,10 @@ use native.Mathlib.Omega.{arith}
 use lib.IntN.{natAbs}
 use lib.ListN.{length}
 use mir.Facts.{toZ-ofZ}
-use Rattle.lines.specs.Text.{decimal}
-use Rattle.lines.proofs.TextLaws.{behind, short, negative, not-negative}
-use Rattle.lines.proofs.text.put_signed.Statement.{statement}
-use Rattle.lines.proofs.text.put_signed.Tie as tie
+use Rattle.text.specs.Text.{decimal}
+use Rattle.text.proofs.TextLaws.{behind, short, negative, not-negative}
+use Rattle.text.proofs.put_signed.Statement.{statement}
+use Rattle.text.proofs.put_signed.Tie as tie
 
 module _ (c : tie.After-magnitude) where
   size : c .magnitude .result ≡ natAbs (c .before .before .args .x)

@@ -6,11 +6,11 @@ use mir.Syntax.{w32}
 use mir.Val.{SFits}
 use mir.Facts.{toZ-ofZ}
 use Rattle.layout.specs.Fields.{formulaOf, shapeOf}
-use Rattle.lines.specs.Text.{decimal}
+use Rattle.text.specs.Text.{decimal}
 use Rattle.lines.specs.Listing.{lineOf}
-use Rattle.lines.proofs.TextLaws.{behind, short}
-use Rattle.lines.proofs.listing.put_line.Statement.{statement}
-use Rattle.lines.proofs.listing.put_line.Tie as tie
+use Rattle.text.proofs.TextLaws.{behind, short}
+use Rattle.lines.proofs.put_line.Statement.{statement}
+use Rattle.lines.proofs.put_line.Tie as tie
 
 five : (c : tie.After-get22) → length (decimal (c .get22 .result)) ≤ 5
 five c =

@@ -1,9 +1,9 @@
 use borrow.Author.Needs.{needs}
 use native.Mathlib.Omega.{arith}
 use mir.Facts.{toZ-ofZ}
-use Rattle.lines.proofs.TextLaws.{behind}
-use Rattle.lines.proofs.listing.put_interval.Statement.{statement}
-use Rattle.lines.proofs.listing.put_interval.Tie as tie
+use Rattle.text.proofs.TextLaws.{behind}
+use Rattle.lines.proofs.put_interval.Statement.{statement}
+use Rattle.lines.proofs.put_interval.Tie as tie
 
 returns : tie.Need-returns
 returns c =

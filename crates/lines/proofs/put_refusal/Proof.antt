@@ -2,11 +2,11 @@ use borrow.Author.Needs.{needs}
 use Prim.Native.Nat.{_≤_, _<_}
 use native.Mathlib.Omega.{arith}
 use lib.ListN.{length}
-use Rattle.lines.specs.Text.{decimal}
+use Rattle.text.specs.Text.{decimal}
 use Rattle.lines.specs.Listing.{refusalLine}
-use Rattle.lines.proofs.TextLaws.{behind, short}
-use Rattle.lines.proofs.listing.put_refusal.Statement.{statement}
-use Rattle.lines.proofs.listing.put_refusal.Tie as tie
+use Rattle.text.proofs.TextLaws.{behind, short}
+use Rattle.lines.proofs.put_refusal.Statement.{statement}
+use Rattle.lines.proofs.put_refusal.Tie as tie
 
 three : (c : tie.Start) → length (decimal (c .args .r .number)) ≤ 3
 three c =

@@ -6,10 +6,10 @@ use native.Mathlib.Omega.{arith}
 use lib.ListN.{length, take, length-set}
 use lib.Seq.{take-all}
 use denote.Ref.{now}
-use Rattle.lines.specs.Text.{Puts}
-use Rattle.lines.proofs.TextLaws.{nothing, turn}
-use Rattle.lines.proofs.text.put_text.Statement.{statement}
-use Rattle.lines.proofs.text.put_text.Tie as tie
+use Rattle.text.specs.Text.{Puts}
+use Rattle.text.proofs.TextLaws.{nothing, turn}
+use Rattle.text.proofs.put_text.Statement.{statement}
+use Rattle.text.proofs.put_text.Tie as tie
 
 abbrev Inv-loop : tie.InvT-loop
 Inv-loop out₀ at text i₀ out i = (i ≤ length text) × (length out ≡ length out₀) × Puts out₀ at (take i text) out (at + i)

@@ -3,10 +3,10 @@ use mathlib.Core.Path.{_≡_, _∙_, sym}
 use native.Mathlib.Omega.{arith}
 use lib.ListN.{length}
 use denote.Ref.{now}
-use Rattle.lines.proofs.TextLaws.{behind, front}
+use Rattle.text.proofs.TextLaws.{behind, front}
 use Rattle.lines.proofs.LineLaws.{shape-of-count, too-long, not-too-long}
-use Rattle.lines.proofs.listing.list_sheet.Statement.{statement}
-use Rattle.lines.proofs.listing.list_sheet.Tie as tie
+use Rattle.lines.proofs.list_sheet.Statement.{statement}
+use Rattle.lines.proofs.list_sheet.Tie as tie
 
 -- lent as a slice, the array says its length
 room-long : (c : tie.After-put-text-arg) → 4096 ≡ length (now (c .before .before .before .args .out))

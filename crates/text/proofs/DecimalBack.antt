@@ -7,7 +7,7 @@ use native.Mathlib.Nat.{pow-suc}
 use native.Mathlib.Omega.{arith}
 use lib.Dec.{ltb}
 use borrow.Author.Tests.{ltb-false}
-use Rattle.lines.specs.Text.{digit, digitsBy, decimal}
+use Rattle.text.specs.Text.{digit, digitsBy, decimal}
 
 -- the number that digits stand for, after those in front of them have given n
 abbrev pub numberFrom : ℕ → List ℕ → ℕ

@@ -2,11 +2,11 @@ use borrow.Author.Needs.{needs}
 use Prim.Native.Nat.{_≤_, _<_}
 use native.Mathlib.Omega.{arith}
 use lib.ListN.{length}
-use Rattle.lines.specs.Text.{decimal}
+use Rattle.text.specs.Text.{decimal}
 use Rattle.lines.specs.Listing.{countLine}
-use Rattle.lines.proofs.TextLaws.{behind, short}
-use Rattle.lines.proofs.listing.put_count.Statement.{statement}
-use Rattle.lines.proofs.listing.put_count.Tie as tie
+use Rattle.text.proofs.TextLaws.{behind, short}
+use Rattle.lines.proofs.put_count.Statement.{statement}
+use Rattle.lines.proofs.put_count.Tie as tie
 
 five : (c : tie.Start) → length (decimal (c .args .count)) ≤ 5
 five c =

@@ -1,7 +1,7 @@
 // Text in ASCII, put into a buffer from a place on. Each function answers the place behind it.
 ghost use Prim.Native.Nat.{_+_, _≤_};
 ghost use lib.ListN.{length};
-ghost use Rattle.lines.specs.Text.{decimal, signed, Puts};
+ghost use Rattle.text.specs.Text.{decimal, signed, Puts};
 
 pub fn put_text(out: &mut [u8], at: usize, text: &[u8]) -> usize
     requires { ⌜ at + length (now text) ≤ length (now out) ⌝ }

@@ -5,12 +5,12 @@ use native.Mathlib.Omega.{arith}
 use lib.ListN.{length-set}
 use borrow.Fn.Kinds.{In}
 use borrow.Fn.PlainCycle.{Measures, is, falls, and}
-use Rattle.lines.proofs.TextLaws.{behind, one, last-digit, more-digits, one-long, one-longer}
-use Rattle.lines.proofs.text.put_decimal.Reads as put-decimal
-use Rattle.lines.proofs.text.put_decimal.Kinds as put-decimal-kinds
-use Rattle.lines.proofs.text.+put_decimal.Lts-put_decimal as lts
-use Rattle.lines.proofs.text.+put_decimal.{statement}
-use Rattle.lines.proofs.text.+put_decimal.Tie.{close}
+use Rattle.text.proofs.TextLaws.{behind, one, last-digit, more-digits, one-long, one-longer}
+use Rattle.text.proofs.put_decimal.Reads as put-decimal
+use Rattle.text.proofs.put_decimal.Kinds as put-decimal-kinds
+use Rattle.text.proofs.+put_decimal.Lts-put_decimal as lts
+use Rattle.text.proofs.+put_decimal.{statement}
+use Rattle.text.proofs.+put_decimal.Tie.{close}
 
 abbrev μ : Measures 1 put-decimal-kinds.ps ℕ
 μ κs a = a .1 .1 .0

@@ -13,7 +13,7 @@ use lib.ListN.{length, getD, take, drop, set, length-append}
 use lib.Seq.{sets, length-sets, take-suc}
 use borrow.Author.Tests.{lt-ltb, le-ltb, ltb-true, ltb-false}
 use Rattle.layout.proofs.StoreLaws.{sets-sets, sets-front}
-use Rattle.lines.specs.Text.{text, digit, digitsBy, decimal, signed, Puts}
+use Rattle.text.specs.Text.{text, digit, digitsBy, decimal, signed, Puts}
 
 -- ---- texts in a buffer
 

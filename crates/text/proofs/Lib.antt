@@ -1,0 +1,3 @@
+-- Laws, then a promise.
+pub mod TextLaws
+pub mod DecimalBack
