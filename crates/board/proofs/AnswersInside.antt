@@ -7,11 +7,11 @@ use Prim.Native.Nat.{ℕ}
 use lib.IntN.{ℤ}
 use lib.Ieee.{Float}
 use lib.Signed.{_≤ℤ_, _<ℤ_}
+use Rattle.word.specs.Words.{Word, NotZero}
+use Rattle.admission.specs.Lists.{All}
 use Rattle.formula.specs.declared.Formula.{Formula}
 use Rattle.formula.specs.Formula.{answerOf, numbersOf, divisorsOf}
 use Rattle.formula.proofs.StaysInRange.{formula-stays}
-use Rattle.word.specs.Words.{Word, NotZero}
-use Rattle.admission.specs.Lists.{All}
 use Rattle.door.specs.Taken.{takenOf}
 use Rattle.door.specs.declared.answer.Taken.the-variants.{Word as Took, NoWord, NotFinite}
 use Rattle.records.specs.Faults.{places}

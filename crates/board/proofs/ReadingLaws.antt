@@ -2,11 +2,11 @@
 use mathlib.Core.Path.{_≡_, sym, ap}
 use mathlib.Core.List.{List}
 use Prim.Native.Nat.{ℕ}
+use Rattle.formula.specs.declared.Formula.{Formula}
+use Rattle.records.specs.declared.refusal.Refusal.{Refusal}
 use Rattle.sheet.specs.Reader.{formulaPlace, formulaAt, readAt, formulaRead}
 use Rattle.sheet.specs.declared.answers.Place.{Place}
 use Rattle.sheet.specs.declared.answers.Place.the-variants.{At, Refused as Absent}
-use Rattle.records.specs.declared.refusal.Refusal.{Refusal}
-use Rattle.formula.specs.declared.Formula.{Formula}
 use Rattle.board.specs.Board.{whenGiven}
 use Rattle.board.specs.declared.answers.Evaluation.{Evaluation}
 use Rattle.board.specs.declared.answers.Evaluation.the-variants.{Refused}

@@ -2,12 +2,12 @@
 use mathlib.Core.Path.{_≡_, sym, ap, _∙_}
 use denote.Ref.{now}
 use Rattle.whole.proofs.Settled.{Settled}
+use Rattle.formula.specs.declared.Formula.{Formula}
 use Rattle.door.proofs.Determined.{exactly-unique, ends-unique}
-use Rattle.sheet.specs.Reader.{formulaRead}
 use Rattle.records.specs.Faults.{places}
+use Rattle.sheet.specs.Reader.{formulaRead}
 use Rattle.sheet.specs.declared.answers.Found.{Found}
 use Rattle.sheet.specs.declared.answers.Found.the-variants.{Given, Refused as Withheld}
-use Rattle.formula.specs.declared.Formula.{Formula}
 use Rattle.board.specs.Board.{ShownAs, IntervalBy, evaluatedDouble}
 use Rattle.board.specs.declared.answers.Evaluation.{Evaluation}
 use Rattle.board.specs.declared.answers.Evaluation.the-variants.{Answered, Refused}

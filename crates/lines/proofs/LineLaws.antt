@@ -6,16 +6,16 @@ use native.Mathlib.Omega.{arith}
 use lib.ListN.{length, length-append}
 use borrow.Author.Tests.{lt-ltb, le-ltb}
 use Rattle.table.specs.declared.Class.the-variants.{FormulaRecord}
+use Rattle.table.proofs.Rule.{ruled}
 use Rattle.layout.specs.Numbers.{number4}
 use Rattle.layout.specs.Fields.{formulaOf}
 use Rattle.layout.proofs.NumberLaws.{number4-more}
-use Rattle.table.proofs.Rule.{ruled}
 use Rattle.layout.proofs.Held.{held}
 use Rattle.records.specs.Faults.{frameFault, bytesAt, rowFor}
 use Rattle.records.specs.Sheets.{FormulaBytes, EachFormula, joined, SheetOf}
 use Rattle.records.proofs.Lengths.{laid}
-use Rattle.walking.proofs.Records.{frame-there, bytes-there}
 use Rattle.records.proofs.Steps.{framed, length-bytesAt}
+use Rattle.walking.proofs.Records.{frame-there, bytes-there}
 use Rattle.sheet.specs.declared.answers.FormulaCount.{FormulaCount}
 use Rattle.sheet.specs.declared.answers.FormulaCount.the-variants.{Count}
 use Rattle.sheet.specs.Reader.{countNumber, countValue, formulaCount, formulaAt, Standing}

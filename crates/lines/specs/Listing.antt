@@ -9,12 +9,12 @@ use lib.ListN.{length, take, replicate}
 use Rattle.formula.specs.declared.Kind.{Kind}
 use Rattle.formula.specs.declared.Kind.the-variants.{Polynomial, Rational, Fraction, Root, NoFormula}
 use Rattle.formula.specs.declared.Formula.{Formula}
-use Rattle.layout.specs.Numbers.{number2, number4}
 use Rattle.table.specs.Table.{rows, firstRow, rowOf, wordsBy}
+use Rattle.layout.specs.Numbers.{number2, number4}
 use Rattle.layout.specs.Fields.{firstCount, fieldOf, shape, shapeOf, words, padded, formula, formulaOf}
 use Rattle.records.specs.Faults.{frameFault, bytesAt, rowFor, outside, countFault, sizeFault, lengthFault, startFault, orderFault, endFault, intervalFault, wordsFault, valueFault, innerFault, recordFault}
-use Rattle.walking.specs.Walking.{foundBy, ending, recordStep, stepOf, walkFrom, walkOf}
 use Rattle.records.specs.declared.refusal.Refusal.{Refusal}
+use Rattle.walking.specs.Walking.{foundBy, ending, recordStep, stepOf, walkFrom, walkOf}
 use Rattle.sheet.specs.declared.answers.FormulaCount.{FormulaCount}
 use Rattle.sheet.specs.declared.answers.FormulaCount.the-variants.{Count, Refused}
 use Rattle.sheet.specs.Reader.{formulaCount, formulaAt}

@@ -1,7 +1,7 @@
 // Polynomials over words: the answer, and the bounds that admission needs. The coefficients stand lowest power first.
 ghost use mathlib.Core.Path.{_≡_};
-ghost use Rattle.admission.specs.Lists.{Words};
 ghost use Rattle.word.specs.Words.{Scale};
+ghost use Rattle.admission.specs.Lists.{Words};
 ghost use Rattle.polynomial.specs.Polynomial.{horner, boundOf, polynomialAdmission, PolynomialReady};
 use admission::Admission;
 

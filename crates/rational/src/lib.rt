@@ -2,8 +2,8 @@
 ghost use mathlib.Core.Path.{_≡_};
 ghost use Prim.Native.Nat.{_<_, _≤_};
 ghost use lib.ListN.{length};
-ghost use Rattle.admission.specs.Lists.{Words};
 ghost use Rattle.word.specs.Words.{Scale, largest};
+ghost use Rattle.admission.specs.Lists.{Words};
 ghost use Rattle.rational.specs.Rational.{rationalOf, rationalAdmission, ratioAdmission, RationalReady};
 use admission::Admission;
 use polynomial::Bounding;

@@ -17,9 +17,9 @@ use Rattle.table.specs.declared.Class.{Class}
 use Rattle.table.specs.declared.Class.the-variants.{StartRecord, FormulaRecord, EndRecord, Unknown}
 use Rattle.table.specs.Table.{rows, unknown, firstRow, rowOf, wordsBy, lengthBy}
 use Rattle.table.specs.declared.Row.{Row}
-use Rattle.layout.specs.Fields.{padded}
 use Rattle.table.proofs.TableLaws.{_also_, each-row}
 use Rattle.table.proofs.Rule.{apart}
+use Rattle.layout.specs.Fields.{padded}
 use Rattle.layout.proofs.Padded.{padded-more}
 use Rattle.record_bytes.specs.Bytes.{Ordered}
 use Rattle.record_bytes.specs.Kinds.{codeFor, onlyFormula}

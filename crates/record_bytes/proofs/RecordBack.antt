@@ -15,13 +15,13 @@ use borrow.Author.Tests.{eq-eqb, ne-eqb, le-ltb, eqb-true, eqb-false}
 use Rattle.formula.specs.declared.Formula.{Formula}
 use Rattle.table.specs.declared.Field.{Field}
 use Rattle.table.specs.declared.Row.{Row}
-use Rattle.layout.specs.Numbers.{number2, number4, word4, bytes2, bytes4, pattern}
 use Rattle.table.specs.Table.{rowOf, wordsBy, lengthBy}
+use Rattle.layout.specs.Numbers.{number2, number4, word4, bytes2, bytes4, pattern}
 use Rattle.layout.specs.Fields.{shape, formula, formulaNumber, loOf, hiOf, wordsOf, firstCount, fieldOf, shapeOf, words, padded, formulaOf}
 use Rattle.layout.proofs.NumberLaws.{number2-at, number4-at, word4-at}
-use Rattle.record_bytes.proofs.Stores.{length-bytes2, length-bytes4}
 use Rattle.records.specs.Faults.{rowFor, countFault, sizeFault, lengthFault, innerFault}
 use Rattle.records.specs.Sheets.{FormulaBytes}
+use Rattle.record_bytes.proofs.Stores.{length-bytes2, length-bytes4}
 use Rattle.record_bytes.specs.Bytes.{headBytes, fieldBytes, fieldsBytes, wordBytes, recordBytes, size, Stands, Ready}
 use Rattle.record_bytes.proofs.KindLaws.{Told}
 use Rattle.record_bytes.proofs.RecordLaws.{length-head, length-field, length-fields, length-words, length-record}

@@ -15,8 +15,8 @@ use Rattle.formula.specs.declared.Shape.{Shape}
 use Rattle.formula.specs.declared.Formula.{Formula}
 use Rattle.table.specs.declared.Field.{Field}
 use Rattle.table.specs.declared.Row.{Row}
-use Rattle.layout.specs.Numbers.{bytes2, bytes4, pattern}
 use Rattle.table.specs.Table.{wordsBy, lengthBy}
+use Rattle.layout.specs.Numbers.{bytes2, bytes4, pattern}
 use Rattle.record_bytes.proofs.Stores.{next, length-bytes2, length-bytes4}
 use Rattle.record_bytes.specs.Bytes.{headBytes, fieldBytes, fieldsBytes, wordBytes, recordBytes, size, Stands, Ordered}
 

@@ -12,9 +12,9 @@ use Rattle.formula.specs.declared.Formula.{Formula}
 use Rattle.table.specs.declared.Class.the-variants.{FormulaRecord}
 use Rattle.table.specs.declared.Field.{Field}
 use Rattle.table.specs.declared.Row.{Row}
-use Rattle.layout.specs.Numbers.{bytes2, bytes4, pattern}
 use Rattle.table.specs.Table.{wordsBy, lengthBy, Within}
 use Rattle.table.specs.Rule.{Ruled}
+use Rattle.layout.specs.Numbers.{bytes2, bytes4, pattern}
 
 -- length, kind, number, lo and hi
 unfoldable pub headBytes : ℕ → ℕ → ℕ → ℤ → ℤ → List ℕ

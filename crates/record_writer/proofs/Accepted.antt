@@ -13,22 +13,22 @@ use borrow.Author.Tests.{eqb-true, eqb-false}
 use Rattle.word.specs.Words.{Word}
 use Rattle.formula.specs.declared.Formula.{Formula}
 use Rattle.table.specs.Table.{rowOf, wordsBy}
-use Rattle.layout.specs.Fields.{padded}
 use Rattle.table.proofs.Rule.{few}
+use Rattle.layout.specs.Fields.{padded}
 use Rattle.layout.proofs.Padded.{length-padded, take-padded}
 use Rattle.records.specs.Guard.{guard}
 use Rattle.records.specs.Faults.{outside, intervalFault, valueFault, countFault, innerFault}
 use Rattle.records.proofs.Chain.{neither}
 use Rattle.records.proofs.Lengths.{inside}
 use Rattle.records.proofs.Soundness.{sound}
-use Rattle.record_writer.specs.Answers.{writingNumber, refusedBy}
 use Rattle.record_bytes.specs.Kinds.{codeFor, onlyFormula, rowBy, plainBy, plain}
 use Rattle.record_bytes.specs.Bytes.{Ready}
+use Rattle.record_bytes.proofs.KindLaws.{code-of-row, code-fits, told}
+use Rattle.record_bytes.proofs.RecordBack.{Tidy}
+use Rattle.record_writer.specs.Answers.{writingNumber, refusedBy}
 use Rattle.record_writer.specs.RecordWriter.{kindAndCounts, valuesAndRoom, plainWriting, recordWriting}
 use Rattle.record_writer.specs.declared.answers.Writing.{Writing}
-use Rattle.record_bytes.proofs.KindLaws.{code-of-row, code-fits, told}
 use Rattle.record_writer.proofs.RecordWriting.{ready, room}
-use Rattle.record_bytes.proofs.RecordBack.{Tidy}
 
 -- a formula as code hands it over: its number fits two bytes, and there are 32 words
 pub record Handed (f : Formula) : Type 0 where

@@ -13,12 +13,12 @@ use Rattle.records.specs.Guard.{guard}
 use Rattle.records.specs.Faults.{innerFault}
 use Rattle.records.proofs.Chain.{passed, neither}
 use Rattle.records.proofs.Lengths.{counted}
-use Rattle.record_writer.specs.Answers.{writingPlace, refusedBy}
-use Rattle.record_writer.specs.declared.answers.Writing.the-variants.{Written}
 use Rattle.record_bytes.specs.Kinds.{codeFor, onlyFormula, plainShape, plainBy, rowBy, plain}
 use Rattle.record_bytes.specs.Bytes.{Ready}
-use Rattle.record_writer.specs.RecordWriter.{kindAndCounts, valuesAndRoom, plainWriting, recordWriting}
 use Rattle.record_bytes.proofs.KindLaws.{kind-of-row, formula-only, ordered}
+use Rattle.record_writer.specs.Answers.{writingPlace, refusedBy}
+use Rattle.record_writer.specs.declared.answers.Writing.the-variants.{Written}
+use Rattle.record_writer.specs.RecordWriter.{kindAndCounts, valuesAndRoom, plainWriting, recordWriting}
 
 pub ready : (f : Formula) → kindAndCounts (rowBy f) (plainShape (rowBy f) (f .shape) .p) (plainShape (rowBy f) (f .shape) .q) ≡ 0 → Ready (rowBy f) (plainBy (rowBy f) f)
 unfolding kindAndCounts plainBy plainShape

@@ -8,14 +8,14 @@ use lib.IntN.{pos}
 use Rattle.formula.specs.declared.Kind.the-variants.{Root, NoFormula}
 use Rattle.formula.specs.declared.Formula.{Formula}
 use Rattle.table.specs.declared.Row.{Row}
-use Rattle.layout.specs.Numbers.{bytes2, bytes4}
 use Rattle.table.specs.Table.{rows, firstRow, rowOf, wordsBy, lengthBy}
+use Rattle.layout.specs.Numbers.{bytes2, bytes4}
 use Rattle.layout.specs.Fields.{shape, formula, padded}
 use Rattle.records.specs.Guard.{guard, orElse}
 use Rattle.records.specs.Faults.{outside, countFault, intervalFault, wordsFault, valueFault, innerFault}
-use Rattle.record_writer.specs.Answers.{refusedBy}
 use Rattle.record_bytes.specs.Kinds.{onlyFormula, kept, plainShape, plainBy, rowBy, plain}
 use Rattle.record_bytes.specs.Bytes.{headBytes, fieldBytes, fieldsBytes, wordBytes, recordBytes}
+use Rattle.record_writer.specs.Answers.{refusedBy}
 use Rattle.record_writer.specs.declared.answers.Writing.{Writing}
 use Rattle.record_writer.specs.declared.answers.Writing.the-variants.{Written}
 

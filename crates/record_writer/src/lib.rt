@@ -2,8 +2,8 @@
 ghost use mathlib.Core.Path.{_≡_};
 ghost use lib.ListN.{length};
 ghost use Rattle.records.specs.Faults.{innerFault};
-ghost use Rattle.record_writer.specs.Answers.{bufferAfter};
 ghost use Rattle.record_bytes.specs.Bytes.{Ready};
+ghost use Rattle.record_writer.specs.Answers.{bufferAfter};
 ghost use Rattle.record_writer.specs.RecordWriter.{kindAndCounts, valuesAndRoom, recordWriting, bytesOf};
 
 pub mod answers;

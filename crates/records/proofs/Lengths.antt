@@ -9,9 +9,9 @@ use lib.ListN.{length}
 use borrow.Author.Tests.{lt-ltb, le-ltb, ltb-true, ltb-false, eq-eqb, ne-eqb, eqb-true, eqb-false}
 use Rattle.table.specs.declared.Field.{Field}
 use Rattle.table.specs.declared.Row.{Row}
-use Rattle.layout.specs.Fields.{firstCount, fieldOf, shapeOf, Laid}
 use Rattle.table.specs.Table.{wordsBy, lengthBy, Within}
 use Rattle.table.specs.Rule.{Bare}
+use Rattle.layout.specs.Fields.{firstCount, fieldOf, shapeOf, Laid}
 use Rattle.records.specs.Guard.{orElse}
 use Rattle.records.specs.Faults.{outside, countFault, sizeFault, lengthFault}
 use Rattle.records.proofs.Chain.{passed, met, neither}

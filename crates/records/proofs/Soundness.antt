@@ -16,10 +16,10 @@ use Rattle.formula.specs.declared.Shape.{Shape}
 use Rattle.formula.specs.Formula.{RootInterval, Sound}
 use Rattle.table.specs.declared.Class.the-variants.{FormulaRecord}
 use Rattle.table.specs.declared.Row.{Row}
-use Rattle.layout.specs.Fields.{shapeOf, wordsOf, padded, Laid}
 use Rattle.table.specs.Table.{Within, wordsBy}
 use Rattle.table.specs.Rule.{Ruled}
 use Rattle.table.proofs.Rule.{few}
+use Rattle.layout.specs.Fields.{shapeOf, wordsOf, padded, Laid}
 use Rattle.layout.proofs.Padded.{length-words, length-padded}
 use Rattle.records.specs.Faults.{outside, wordFault, wordsFault, intervalFault, kindFault, valueFault}
 use Rattle.records.proofs.Chain.{passed, neither}

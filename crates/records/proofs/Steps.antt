@@ -6,11 +6,11 @@ use native.Mathlib.Omega.{arith}
 use lib.Dec.{ltb}
 use lib.ListN.{length, take, drop, length-take, length-drop}
 use borrow.Author.Tests.{eq-eqb, ne-eqb, ltb-false}
-use Rattle.layout.specs.Numbers.{number4}
-use Rattle.layout.specs.Fields.{formulaNumber, formulaOf}
 use Rattle.table.specs.declared.Class.{Class}
 use Rattle.table.specs.declared.Class.the-variants.{FormulaRecord}
 use Rattle.table.specs.declared.Row.{Row}
+use Rattle.layout.specs.Numbers.{number4}
+use Rattle.layout.specs.Fields.{formulaNumber, formulaOf}
 use Rattle.records.specs.Faults.{frameFault, bytesAt, placeFault, lengthFault, orderFault, innerFault, formulaFault, classFault, recordFault}
 use Rattle.records.specs.Guard.{orElse}
 use Rattle.records.specs.declared.walk.Walk.{Walk}

@@ -16,8 +16,8 @@ use borrow.Author.Tests.{lt-ltb, le-ltb, ltb-true, ltb-false, eqb-true}
 use Rattle.formula.specs.declared.Shape.{Shape}
 use Rattle.table.specs.declared.Row.{Row}
 use Rattle.layout.specs.Fields.{words, padded}
-use Rattle.records.specs.Guard.{orElse}
 use Rattle.layout.specs.Numbers.{word4}
+use Rattle.records.specs.Guard.{orElse}
 use Rattle.records.specs.Faults.{wordFault, wordsFault, outside, intervalFault, kindFault, ownFault, valueFault}
 use Rattle.records.proofs.Chain.{halts, goes, stop, pass, passed, or-assoc}
 

@@ -8,18 +8,18 @@ use lib.ListN.{length, take, drop, replicate}
 use lib.IntN.{ℤ, pos, negsuc, natAbs}
 use lib.Signed.{ltZ}
 use Rattle.word.specs.Words.{largest}
+use Rattle.admission.specs.Admission.{numberOf}
 use Rattle.formula.specs.declared.Kind.{Kind}
 use Rattle.formula.specs.declared.Kind.the-variants.{Polynomial, Rational, Fraction, Root, NoFormula}
 use Rattle.formula.specs.declared.Shape.{Shape}
 use Rattle.formula.specs.declared.Formula.{Formula}
-use Rattle.admission.specs.Admission.{numberOf}
 use Rattle.formula.specs.Formula.{admissionOf}
 use Rattle.table.specs.declared.Class.{Class}
 use Rattle.table.specs.declared.Class.the-variants.{StartRecord, FormulaRecord, EndRecord, Unknown}
 use Rattle.table.specs.declared.Field.{Field}
 use Rattle.table.specs.declared.Row.{Row}
-use Rattle.layout.specs.Numbers.{number2, number4}
 use Rattle.table.specs.Table.{rows, firstRow, rowOf, wordsBy, lengthBy}
+use Rattle.layout.specs.Numbers.{number2, number4}
 use Rattle.layout.specs.Fields.{codeOf, countOf, formulaNumber, firstCount, fieldOf, shapeOf, formulaOf}
 use Rattle.records.specs.Guard.{orElse}
 use Rattle.records.specs.declared.walk.Walk.{Walk}

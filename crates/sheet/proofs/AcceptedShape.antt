@@ -6,15 +6,15 @@ use Prim.Native.Nat.{ℕ, _+_}
 use native.Mathlib.Omega.{arith}
 use lib.ListN.{length}
 use borrow.Author.Tests.{le-ltb}
-use Rattle.walking.specs.Walking.{walkOf}
 use Rattle.records.specs.Sheets.{SheetOf}
-use Rattle.sheet.specs.Reader.{countNumber, countValue, formulaCount, noNumber, countAnswer, Accepted}
-use Rattle.sheet.specs.declared.answers.FormulaCount.the-variants.{Count}
+use Rattle.walking.specs.Walking.{walkOf}
 use Rattle.walking.specs.declared.Walked.{Walked}
 use Rattle.walking.specs.declared.Walked.the-variants.{Whole}
-use Rattle.sheet.proofs.OneToNine.{accepted}
 use Rattle.walking.proofs.WalkToShape.{shape}
 use Rattle.walking.proofs.ShapeToWalk.{placeIn, walked}
+use Rattle.sheet.specs.Reader.{countNumber, countValue, formulaCount, noNumber, countAnswer, Accepted}
+use Rattle.sheet.specs.declared.answers.FormulaCount.the-variants.{Count}
+use Rattle.sheet.proofs.OneToNine.{accepted}
 
 pub accepted-shape : (s : List ℕ) → Accepted s → SheetOf (countValue (formulaCount s)) s
 unfolding formulaCount

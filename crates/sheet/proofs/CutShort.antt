@@ -6,11 +6,11 @@ use Prim.Native.Nat.{ℕ, _+_, _<_}
 use native.Mathlib.Omega.{arith}
 use lib.ListN.{length, take, drop, length-drop, take-append-drop}
 use borrow.Author.Tests.{lt-ltb}
-use Rattle.sheet.specs.Reader.{countNumber, countPlace, countAnswer, noNumber, formulaCount, Accepted, NotAccepted}
 use Rattle.walking.specs.declared.Walked.{Walked}
+use Rattle.walking.proofs.ShapeToWalk.{walked}
+use Rattle.sheet.specs.Reader.{countNumber, countPlace, countAnswer, noNumber, formulaCount, Accepted, NotAccepted}
 use Rattle.sheet.proofs.OneToNine.{one-to-nine}
 use Rattle.sheet.proofs.AcceptedShape.{accepted-shape}
-use Rattle.walking.proofs.ShapeToWalk.{walked}
 
 -- an accepted sheet with anything behind it is refused by 9, at the first byte too many
 pub too-long : (s after : List ℕ) → Accepted s → 0 < length after → (countNumber (formulaCount (s ++ after)) ≡ 9) × (countPlace (formulaCount (s ++ after)) ≡ length s)

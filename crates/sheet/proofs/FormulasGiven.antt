@@ -9,21 +9,21 @@ use lib.ListN.{length}
 use Rattle.admission.specs.declared.Admission.{Admission}
 use Rattle.admission.specs.declared.Admission.the-variants.{Admitted, RangeLeft, DivisorZero}
 use Rattle.admission.specs.Admission.{numberOf}
-use Rattle.layout.specs.Fields.{codeOf, formulaNumber, shapeOf, loOf, hiOf, wordsOf, padded, formulaOf}
 use Rattle.table.proofs.Rule.{ruled}
+use Rattle.layout.specs.Fields.{codeOf, formulaNumber, shapeOf, loOf, hiOf, wordsOf, padded, formulaOf}
 use Rattle.records.specs.Faults.{rowFor, valueFault, innerFault}
 use Rattle.records.specs.Guard.{refusal}
 use Rattle.records.specs.Sheets.{FormulaBytes, Has, SheetOf}
+use Rattle.records.proofs.Chain.{neither}
+use Rattle.records.proofs.Lengths.{laid}
+use Rattle.records.proofs.Soundness.{sound-record}
+use Rattle.walking.specs.declared.Walked.{Walked}
+use Rattle.walking.proofs.ShapeToWalk.{placeIn}
 use Rattle.sheet.specs.Reader.{countNumber, formulaCount, foundNumber, foundPlace, reading, withheld, placeFound, placeAnswer, formulaPlace, readAt, formulaRead, Accepted, Answered, Fit}
 use Rattle.sheet.specs.declared.answers.FormulaCount.{FormulaCount}
 use Rattle.sheet.specs.declared.answers.FormulaCount.the-variants.{Count, Refused}
 use Rattle.sheet.specs.declared.answers.Found.the-variants.{Given}
 use Rattle.sheet.specs.declared.answers.Reading.{Reading}
-use Rattle.walking.specs.declared.Walked.{Walked}
-use Rattle.records.proofs.Chain.{neither}
-use Rattle.records.proofs.Lengths.{laid}
-use Rattle.records.proofs.Soundness.{sound-record}
-use Rattle.walking.proofs.ShapeToWalk.{placeIn}
 use Rattle.sheet.proofs.AcceptedShape.{accepted-shape, walk-of}
 use Rattle.sheet.proofs.SameRefusal.{same-refusal}
 use Rattle.sheet.proofs.Places.{At, noted, has, stands, given}

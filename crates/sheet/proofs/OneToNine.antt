@@ -10,29 +10,29 @@ use lib.ListN.{length}
 use lib.IntN.{ℤ, pos, natAbs}
 use lib.Signed.{ltZ}
 use borrow.Author.Tests.{eqb-false}
-use Rattle.formula.specs.declared.Kind.{Kind}
-use Rattle.formula.specs.declared.Kind.the-variants.{Polynomial, Rational, Fraction, Root, NoFormula}
 use Rattle.admission.specs.declared.Admission.{Admission}
 use Rattle.admission.specs.declared.Admission.the-variants.{Admitted, RangeLeft, DivisorZero}
-use Rattle.formula.specs.declared.Formula.{Formula}
 use Rattle.admission.specs.Admission.{numberOf}
+use Rattle.formula.specs.declared.Kind.{Kind}
+use Rattle.formula.specs.declared.Kind.the-variants.{Polynomial, Rational, Fraction, Root, NoFormula}
+use Rattle.formula.specs.declared.Formula.{Formula}
 use Rattle.formula.specs.Formula.{admissionOf}
 use Rattle.table.specs.declared.Class.{Class}
 use Rattle.table.specs.declared.Class.the-variants.{StartRecord, FormulaRecord, EndRecord, Unknown}
 use Rattle.table.specs.declared.Field.{Field}
 use Rattle.table.specs.declared.Row.{Row}
-use Rattle.layout.specs.Fields.{countOf, formulaNumber, shapeOf, formulaOf}
 use Rattle.table.specs.Table.{lengthBy}
+use Rattle.layout.specs.Fields.{countOf, formulaNumber, shapeOf, formulaOf}
 use Rattle.layout.specs.Numbers.{number4}
 use Rattle.records.specs.Guard.{guard, orElse, refusal}
 use Rattle.records.specs.Faults.{frameFault, bytesAt, rowFor, placeFault, outside, countFault, sizeFault, lengthFault, startFault, orderFault, endFault, wordFault, wordsFault, intervalFault, kindFault, valueFault, places, innerFault, classFault, recordFault}
-use Rattle.walking.specs.Walking.{refused, ending, classStep, recordStep, begin, onStep, stepOf, walkFrom, walkOf}
-use Rattle.sheet.specs.Reader.{countNumber, formulaCount, noNumber, countAnswer, foundNumber, withheld, placeAnswer, formulaPlace, readAt, formulaRead, Accepted, NotAccepted}
 use Rattle.records.specs.declared.walk.Walk.{Walk}
+use Rattle.walking.specs.Walking.{refused, ending, classStep, recordStep, begin, onStep, stepOf, walkFrom, walkOf}
 use Rattle.walking.specs.declared.Walked.{Walked}
 use Rattle.walking.specs.declared.Walked.the-variants.{Whole, Broken}
 use Rattle.walking.specs.declared.Step.{Step}
 use Rattle.walking.specs.declared.Step.the-variants.{More, Done}
+use Rattle.sheet.specs.Reader.{countNumber, formulaCount, noNumber, countAnswer, foundNumber, withheld, placeAnswer, formulaPlace, readAt, formulaRead, Accepted, NotAccepted}
 
 -- ---- no fault is above 8
 

@@ -12,17 +12,17 @@ use borrow.Author.Tests.{eqb-true, eqb-false, le-ltb}
 use Rattle.table.specs.declared.Class.the-variants.{FormulaRecord}
 use Rattle.layout.specs.Fields.{formulaNumber}
 use Rattle.records.specs.Faults.{bytesAt}
-use Rattle.walking.specs.Walking.{walkOf}
 use Rattle.records.specs.Sheets.{FormulaBytes, EachFormula, joined, Has, SheetOf}
-use Rattle.sheet.specs.Reader.{formulaAt, reading, placeFound, placeAnswer, formulaPlace, readAt, Standing}
-use Rattle.sheet.specs.declared.answers.Place.{Place}
-use Rattle.sheet.specs.declared.answers.Place.the-variants.{At as StandsAt, Refused as Absent}
-use Rattle.sheet.specs.declared.answers.Found.the-variants.{Given}
+use Rattle.walking.specs.Walking.{walkOf}
 use Rattle.walking.specs.declared.Walked.{Walked}
 use Rattle.walking.specs.declared.Walked.the-variants.{Whole, Broken}
 use Rattle.walking.proofs.Records.{frame-there, bytes-there}
 use Rattle.walking.proofs.WalkToShape.{shape}
 use Rattle.walking.proofs.ShapeToWalk.{placeIn, walked}
+use Rattle.sheet.specs.Reader.{formulaAt, reading, placeFound, placeAnswer, formulaPlace, readAt, Standing}
+use Rattle.sheet.specs.declared.answers.Place.{Place}
+use Rattle.sheet.specs.declared.answers.Place.the-variants.{At as StandsAt, Refused as Absent}
+use Rattle.sheet.specs.declared.answers.Found.the-variants.{Given}
 
 -- a record of the number n, at the place k, where the first of them stands at `at`
 pub record At (n at k : ℕ) (fs : List (List ℕ)) : Type 0 where

@@ -11,17 +11,17 @@ use Rattle.table.specs.declared.Class.the-variants.{StartRecord, FormulaRecord,
 use Rattle.table.specs.declared.Row.{Row}
 use Rattle.records.specs.Guard.{guard, refusal}
 use Rattle.records.specs.Faults.{frameFault, bytesAt, rowFor, orderFault, endFault, classFault, recordFault}
-use Rattle.walking.specs.Walking.{walk, refused, ending, classStep, recordStep, begin, onStep, stepOf, walkFrom, walkOf}
-use Rattle.sheet.specs.declared.answers.Place.{Place}
-use Rattle.sheet.specs.declared.answers.Place.the-variants.{At as StandsAt, Refused as Absent}
-use Rattle.sheet.specs.Reader.{placeNumber, placePlace, foundNumber, foundPlace, countAnswer, noNumber, formulaCount, withheld, placeAnswer, formulaPlace, readAt, formulaRead}
 use Rattle.records.specs.declared.refusal.Refusal.{Refusal}
-use Rattle.sheet.specs.declared.answers.FormulaCount.the-variants.{Refused}
 use Rattle.records.specs.declared.walk.Walk.{Walk}
+use Rattle.walking.specs.Walking.{walk, refused, ending, classStep, recordStep, begin, onStep, stepOf, walkFrom, walkOf}
 use Rattle.walking.specs.declared.Walked.{Walked}
 use Rattle.walking.specs.declared.Walked.the-variants.{Whole, Broken}
 use Rattle.walking.specs.declared.Step.{Step}
 use Rattle.walking.specs.declared.Step.the-variants.{More, Done}
+use Rattle.sheet.specs.declared.answers.Place.{Place}
+use Rattle.sheet.specs.declared.answers.Place.the-variants.{At as StandsAt, Refused as Absent}
+use Rattle.sheet.specs.Reader.{placeNumber, placePlace, foundNumber, foundPlace, countAnswer, noNumber, formulaCount, withheld, placeAnswer, formulaPlace, readAt, formulaRead}
+use Rattle.sheet.specs.declared.answers.FormulaCount.the-variants.{Refused}
 
 -- a walk that asks for nothing
 abbrev plain : Walk → Walk

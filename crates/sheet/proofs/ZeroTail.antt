@@ -10,13 +10,13 @@ use lib.ListN.{length, getD, take, replicate, length-append, length-replicate, g
 use lib.Seq.{ext-getD, getD-take, length-take-le, getD-append-add}
 use borrow.Author.Tests.{ltb-true, ltb-false}
 use Rattle.table.specs.declared.Class.the-variants.{EndRecord}
+use Rattle.table.proofs.Rule.{end-length}
 use Rattle.layout.specs.Numbers.{number2}
 use Rattle.layout.specs.Fields.{codeOf, shapeOf}
-use Rattle.table.proofs.Rule.{end-length}
 use Rattle.records.specs.Faults.{rowFor}
 use Rattle.records.specs.Sheets.{RecordOf, joined}
-use Rattle.sheet.specs.Reader.{Accepted, NotAccepted}
 use Rattle.records.proofs.Lengths.{laid}
+use Rattle.sheet.specs.Reader.{Accepted, NotAccepted}
 use Rattle.sheet.proofs.OneToNine.{one-to-nine}
 use Rattle.sheet.proofs.AcceptedShape.{accepted-shape}
 

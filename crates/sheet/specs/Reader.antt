@@ -4,18 +4,20 @@ use mathlib.Core.Path.{_≡_, refl}
 use mathlib.Core.List.{List, [], _∷_}
 use lib.ListN.{length, replicate}
 use lib.IntN.{pos}
-use Rattle.formula.specs.declared.Kind.the-variants.{NoFormula}
 use Rattle.admission.specs.declared.Admission.the-variants.{Admitted}
+use Rattle.formula.specs.declared.Kind.the-variants.{NoFormula}
 use Rattle.formula.specs.declared.Formula.{Formula}
 use Rattle.formula.specs.Formula.{Sound, admissionOf}
-use Rattle.layout.specs.Numbers.{number2, number4}
 use Rattle.table.specs.Table.{rows, firstRow, rowOf, wordsBy}
+use Rattle.layout.specs.Numbers.{number2, number4}
 use Rattle.layout.specs.Fields.{firstCount, fieldOf, shape, shapeOf, padded, formula, formulaOf}
 use Rattle.records.specs.Faults.{places, frameFault, bytesAt, rowFor, outside, countFault, sizeFault, lengthFault, startFault, recordFault}
-use Rattle.walking.specs.Walking.{recordStep, stepOf, walkFrom, walkOf}
 use Rattle.records.specs.Guard.{refusal}
 use Rattle.records.specs.Sheets.{FormulaBytes}
 use Rattle.records.specs.declared.refusal.Refusal.{Refusal}
+use Rattle.walking.specs.Walking.{recordStep, stepOf, walkFrom, walkOf}
+use Rattle.walking.specs.declared.Walked.{Walked}
+use Rattle.walking.specs.declared.Walked.the-variants.{Whole, Broken}
 use Rattle.sheet.specs.declared.answers.FormulaCount.{FormulaCount}
 use Rattle.sheet.specs.declared.answers.FormulaCount.the-variants.{Count, Refused}
 use Rattle.sheet.specs.declared.answers.Found.{Found}
@@ -23,8 +25,6 @@ use Rattle.sheet.specs.declared.answers.Found.the-variants.{Given, Refus
 use Rattle.sheet.specs.declared.answers.Place.{Place}
 use Rattle.sheet.specs.declared.answers.Place.the-variants.{At, Refused as Absent}
 use Rattle.sheet.specs.declared.answers.Reading.{Reading}
-use Rattle.walking.specs.declared.Walked.{Walked}
-use Rattle.walking.specs.declared.Walked.the-variants.{Whole, Broken}
 
 -- ---- the paper's number, place and value of each case; 0 where there is no refusal
 abbrev pub countNumber : FormulaCount → ℕ

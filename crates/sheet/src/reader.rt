@@ -1,9 +1,9 @@
 // The reader: a sheet's formula count, and the whole decoded formula of a number. One pass over the sheet each.
 ghost use mathlib.Core.Path.{_≡_};
+ghost use Rattle.layout.specs.Fields.{formulaOf};
 ghost use Rattle.records.specs.Faults.{rowFor};
 ghost use Rattle.records.specs.Sheets.{FormulaBytes};
 ghost use Rattle.sheet.specs.Reader.{formulaCount, formulaPlace, noFormula, withheld, formulaAt, formulaRead, Standing};
-ghost use Rattle.layout.specs.Fields.{formulaOf};
 use crate::answers::FormulaCount;
 use crate::answers::Found;
 use crate::answers::Place;

@@ -16,23 +16,23 @@ use Rattle.records.specs.Faults.{bytesAt, rowFor}
 use Rattle.records.specs.Sheets.{FormulaBytes, EachFormula, Rising, joined, Has, SheetOf}
 use Rattle.walking.specs.Walking.{walkOf}
 use Rattle.walking.specs.declared.Walked.{Walked}
+use Rattle.walking.proofs.ShapeToWalk.{placeIn}
 use Rattle.sheet.specs.Reader.{formulaCount, reading, placeAnswer, formulaPlace, readAt, formulaRead}
 use Rattle.sheet.specs.declared.answers.FormulaCount.{FormulaCount}
 use Rattle.sheet.specs.declared.answers.FormulaCount.the-variants.{Count, Refused}
 use Rattle.sheet.specs.declared.answers.Found.the-variants.{Given}
-use Rattle.walking.proofs.ShapeToWalk.{placeIn}
 use Rattle.sheet.proofs.Places.{At, noted, stands, given}
 use Rattle.sheet.proofs.AcceptedShape.{walk-of, shape-count}
-use Rattle.record_writer.specs.Answers.{writingNumber, refusedBy}
 use Rattle.record_bytes.specs.Kinds.{plainBy, plain, rowBy}
+use Rattle.record_bytes.proofs.RecordBack.{formula-back, bytes-back, row-back}
+use Rattle.record_writer.specs.Answers.{writingNumber, refusedBy}
 use Rattle.record_writer.specs.RecordWriter.{recordWriting, bytesOf}
+use Rattle.record_writer.specs.declared.answers.Writing.the-variants.{Written}
+use Rattle.record_writer.proofs.Accepted.{Handed, accepts, tidy}
 use Rattle.sheet_writer.specs.Runs.{runCount}
 use Rattle.sheet_writer.specs.SheetWriter.{countedWriting, sheetWriting, sheetBytes, sheetOf}
-use Rattle.record_writer.specs.declared.answers.Writing.the-variants.{Written}
-use Rattle.record_bytes.proofs.RecordBack.{formula-back, bytes-back, row-back}
 use Rattle.sheet_writer.proofs.RunShape.{RunOf, run-shape, shape-run}
 use Rattle.sheet_writer.proofs.SheetShape.{sheet-shape, sheet-written}
-use Rattle.record_writer.proofs.Accepted.{Handed, accepts, tidy}
 
 -- ---- whatever the sheet writer has written
 

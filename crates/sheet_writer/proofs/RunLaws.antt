@@ -10,16 +10,16 @@ use Rattle.table.specs.declared.Class.the-variants.{FormulaRecord}
 use Rattle.layout.specs.Fields.{formulaNumber, formulaOf}
 use Rattle.records.specs.Guard.{guard, refusal}
 use Rattle.records.specs.Faults.{frameFault, rowFor, lengthFault, orderFault, innerFault, classFault}
-use Rattle.walking.specs.Walking.{afterFormula}
 use Rattle.records.specs.declared.walk.Walk.{Walk}
-use Rattle.sheet.specs.declared.answers.FormulaCount.{FormulaCount}
-use Rattle.sheet.specs.declared.answers.FormulaCount.the-variants.{Count, Refused}
 use Rattle.records.proofs.Chain.{halts, goes, neither}
 use Rattle.records.proofs.Steps.{framed, length-bytesAt, clear}
+use Rattle.walking.specs.Walking.{afterFormula}
 use Rattle.walking.proofs.Going.{ordered}
+use Rattle.sheet.specs.declared.answers.FormulaCount.{FormulaCount}
+use Rattle.sheet.specs.declared.answers.FormulaCount.the-variants.{Count, Refused}
 use Rattle.record_bytes.specs.Kinds.{onlyFormula}
-use Rattle.sheet_writer.specs.Runs.{beginRun, inRun, runRecord, runRecordFault, runFault, runFrom, runCount, Going}
 use Rattle.record_bytes.proofs.KindLaws.{formula-only}
+use Rattle.sheet_writer.specs.Runs.{beginRun, inRun, runRecord, runRecordFault, runFault, runFrom, runCount, Going}
 
 -- ---- a record without fault
 

@@ -13,13 +13,13 @@ use Rattle.table.specs.declared.Class.the-variants.{FormulaRecord}
 use Rattle.layout.specs.Fields.{formulaNumber}
 use Rattle.records.specs.Guard.{guard, orElse, refusal}
 use Rattle.records.specs.Faults.{frameFault, rowFor, placeFault, orderFault, classFault, recordFault}
-use Rattle.walking.specs.Walking.{afterFormula}
 use Rattle.records.specs.Sheets.{FormulaBytes, EachFormula, Rising, joined}
 use Rattle.records.specs.declared.walk.Walk.{Walk}
-use Rattle.sheet.specs.declared.answers.FormulaCount.the-variants.{Count, Refused}
 use Rattle.records.proofs.Chain.{pass}
+use Rattle.walking.specs.Walking.{afterFormula}
 use Rattle.walking.proofs.Going.{ordered}
 use Rattle.walking.proofs.Records.{record-at, split-at, frame-there, bytes-there}
+use Rattle.sheet.specs.declared.answers.FormulaCount.the-variants.{Count, Refused}
 use Rattle.record_bytes.specs.Kinds.{onlyFormula}
 use Rattle.sheet_writer.specs.Runs.{beginRun, inRun, runRecord, runRecordFault, runFault, runFrom, runCount, Going}
 use Rattle.sheet_writer.proofs.RunLaws.{Faultless, faultless, moves, begins}

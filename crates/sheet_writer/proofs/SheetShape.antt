@@ -6,15 +6,15 @@ use native.Mathlib.Omega.{arith}
 use lib.ListN.{length, length-append}
 use borrow.Author.Tests.{ne-eqb, le-ltb}
 use Rattle.table.specs.declared.Class.the-variants.{StartRecord, EndRecord}
-use Rattle.layout.specs.Numbers.{number2, number4, bytes2, bytes4}
 use Rattle.table.specs.Table.{rows, firstRow, rowOf, wordsBy}
+use Rattle.layout.specs.Numbers.{number2, number4, bytes2, bytes4}
 use Rattle.layout.specs.Fields.{countOf, firstCount, fieldOf, shapeOf}
 use Rattle.layout.proofs.NumberLaws.{number2-at}
-use Rattle.record_bytes.proofs.Stores.{length-bytes2, length-bytes4}
 use Rattle.records.specs.Faults.{outside, countFault, sizeFault, lengthFault}
 use Rattle.records.specs.Sheets.{RecordOf, EachFormula, Rising, joined, SheetOf}
-use Rattle.sheet_writer.specs.SheetWriter.{boundBytes, sheetBytes, sheetWriting}
+use Rattle.record_bytes.proofs.Stores.{length-bytes2, length-bytes4}
 use Rattle.record_writer.specs.declared.answers.Writing.the-variants.{Written}
+use Rattle.sheet_writer.specs.SheetWriter.{boundBytes, sheetBytes, sheetWriting}
 use Rattle.sheet_writer.proofs.RunShape.{RunOf, shape-run}
 
 pub start-record : (c : ℕ) → RecordOf StartRecord (boundBytes 0x0001 c)

@@ -14,34 +14,34 @@ use Rattle.table.specs.declared.Class.{Class}
 use Rattle.table.specs.declared.Class.the-variants.{StartRecord, EndRecord}
 use Rattle.table.specs.declared.Field.{Field}
 use Rattle.table.specs.declared.Row.{Row}
-use Rattle.layout.specs.Numbers.{number2, number4, bytes2, bytes4}
 use Rattle.table.specs.Table.{rowOf, wordsBy, lengthBy}
+use Rattle.table.proofs.Rule.{apart}
+use Rattle.layout.specs.Numbers.{number2, number4, bytes2, bytes4}
 use Rattle.layout.specs.Fields.{codeOf, countOf, formulaNumber, loOf, hiOf, shape, formula, firstCount, fieldOf, shapeOf, wordsOf, padded, formulaOf}
-use Rattle.record_bytes.proofs.Stores.{Bytes}
 use Rattle.layout.proofs.Padded.{length-words, take-padded}
 use Rattle.records.specs.Faults.{rowFor, outside, countFault, sizeFault, lengthFault, intervalFault, valueFault, innerFault}
 use Rattle.records.specs.Sheets.{RecordOf, FormulaBytes, EachFormula, joined, Has, SheetOf}
+use Rattle.records.proofs.Chain.{goes, passed, neither}
+use Rattle.records.proofs.Lengths.{inside, laid}
 use Rattle.sheet.specs.Reader.{countValue, formulaCount, Accepted, Answered, formulaRead}
 use Rattle.sheet.specs.declared.answers.Reading.{Reading}
 use Rattle.sheet.specs.declared.answers.FormulaCount.the-variants.{Count}
 use Rattle.sheet.proofs.ZeroTail.{end-is-eight}
 use Rattle.sheet.proofs.AcceptedShape.{accepted-shape}
 use Rattle.sheet.proofs.FormulasGiven.{found-exactly}
-use Rattle.records.proofs.Chain.{goes, passed, neither}
-use Rattle.records.proofs.Lengths.{inside, laid}
-use Rattle.record_writer.specs.Answers.{refusedBy}
+use Rattle.record_bytes.proofs.Stores.{Bytes}
 use Rattle.record_bytes.specs.Kinds.{onlyFormula, kept, plainShape, plainBy, plain, rowBy}
 use Rattle.record_bytes.specs.Bytes.{headBytes, fieldBytes, fieldsBytes, recordBytes, size}
+use Rattle.record_bytes.proofs.KindLaws.{ordered, code-found, code-again, start-row, end-code}
+use Rattle.record_bytes.proofs.BytesAgain.{bytes-left, bytes-right, glue, two-again, four-again, word-again, field-again, words-again}
+use Rattle.record_writer.specs.Answers.{refusedBy}
 use Rattle.record_writer.specs.RecordWriter.{kindAndCounts, valuesAndRoom, plainWriting, recordWriting, bytesOf}
+use Rattle.record_writer.specs.declared.answers.Writing.the-variants.{Written}
 use Rattle.sheet_writer.specs.Runs.{runCount}
 use Rattle.sheet_writer.specs.SheetWriter.{boundBytes, sheetWriting, sheetOf}
-use Rattle.record_writer.specs.declared.answers.Writing.the-variants.{Written}
-use Rattle.table.proofs.Rule.{apart}
-use Rattle.record_bytes.proofs.KindLaws.{ordered, code-found, code-again, start-row, end-code}
 use Rattle.sheet_writer.proofs.RunShape.{none, shape-run}
 use Rattle.sheet_writer.proofs.SheetShape.{sheet-written}
 use Rattle.sheet_writer.proofs.ReadsWritten.{In, reads-record}
-use Rattle.record_bytes.proofs.BytesAgain.{bytes-left, bytes-right, glue, two-again, four-again, word-again, field-again, words-again}
 
 -- ---- a record
 

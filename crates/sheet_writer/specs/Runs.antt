@@ -7,9 +7,9 @@ use lib.Dec.{ltb}
 use lib.ListN.{length}
 use Rattle.records.specs.Guard.{guard, orElse, refusal}
 use Rattle.records.specs.Faults.{frameFault, bytesAt, rowFor, recordFault}
+use Rattle.records.specs.declared.walk.Walk.{Walk}
 use Rattle.walking.specs.Walking.{walk, afterFormula}
 use Rattle.sheet.specs.Reader.{noNumber}
-use Rattle.records.specs.declared.walk.Walk.{Walk}
 use Rattle.sheet.specs.declared.answers.FormulaCount.{FormulaCount}
 use Rattle.sheet.specs.declared.answers.FormulaCount.the-variants.{Count, Refused}
 use Rattle.record_bytes.specs.Kinds.{onlyFormula}

@@ -5,8 +5,8 @@ use mathlib.Core.List.{List, [], _∷_, _++_}
 use mathlib.Core.Bool.{cond}
 use lib.Dec.{eqb, ltb}
 use lib.ListN.{length}
-use Rattle.layout.specs.Numbers.{number2, number4, bytes2, bytes4}
 use Rattle.table.specs.Table.{rows, firstRow, rowOf, wordsBy}
+use Rattle.layout.specs.Numbers.{number2, number4, bytes2, bytes4}
 use Rattle.layout.specs.Fields.{firstCount, fieldOf, shapeOf, words, padded, formulaOf}
 use Rattle.records.specs.Faults.{frameFault, bytesAt, outside, countFault, sizeFault, lengthFault, orderFault, intervalFault, wordsFault, valueFault, innerFault, recordFault}
 use Rattle.records.specs.Guard.{refusal}
@@ -14,9 +14,9 @@ use Rattle.sheet.specs.declared.answers.FormulaCount.{FormulaCount}
 use Rattle.sheet.specs.declared.answers.FormulaCount.the-variants.{Count, Refused as Broken}
 use Rattle.sheet.specs.Reader.{countValue}
 use Rattle.record_writer.specs.Answers.{refusedBy}
-use Rattle.sheet_writer.specs.Runs.{runRecordFault, runFault, runFrom, runCount}
 use Rattle.record_writer.specs.declared.answers.Writing.{Writing}
 use Rattle.record_writer.specs.declared.answers.Writing.the-variants.{Written, Refused}
+use Rattle.sheet_writer.specs.Runs.{runRecordFault, runFault, runFrom, runCount}
 
 -- the run's own refusal; then 12 if the buffer is shorter than the run plus 16
 abbrev pub countedWriting : FormulaCount → ℕ → ℕ → Writing

@@ -1,7 +1,7 @@
 -- From what the board shows as doubles to what C is given.
 use mathlib.Core.Path.{refl, ap}
-use Rattle.records.specs.declared.refusal.Refusal.{Refusal}
 use Rattle.formula.specs.declared.Formula.{Formula}
+use Rattle.records.specs.declared.refusal.Refusal.{Refusal}
 use Rattle.sheet.specs.declared.answers.Found.{Found}
 use Rattle.sheet.specs.declared.answers.Found.the-variants.{Given, Refused as Withheld}
 use Rattle.board.specs.Board.{ShownAs, IntervalBy}

@@ -5,8 +5,8 @@ use Rattle.formula.specs.declared.Kind.the-variants.{NoFormula}
 use Rattle.formula.specs.declared.Formula.{Formula}
 use Rattle.table.specs.declared.Class.the-variants.{FormulaRecord}
 use Rattle.table.specs.Table.{rows, rowOf}
-use Rattle.layout.specs.Fields.{shape, formula}
 use Rattle.table.proofs.TableLaws.{_also_, each-row}
+use Rattle.layout.specs.Fields.{shape, formula}
 use Rattle.record_bytes.proofs.KindLaws.{kind-of-row}
 use Rattle.valvepigeon.specs.Fields.{fieldsOf, formulaBy}
 

@@ -5,8 +5,8 @@ use denote.Triple.Clauses.{AtExit}
 use contract.Lifetimes.{Lfts}
 use borrow.Fn.Kinds.{Dens, endedOf, resT}
 use Rattle.whole.proofs.Settled.{Settled}
-use Rattle.door.proofs.Determined.{exactly-unique}
 use Rattle.formula.specs.declared.Formula.{Formula}
+use Rattle.door.proofs.Determined.{exactly-unique}
 use Rattle.records.specs.Faults.{places}
 use Rattle.sheet.specs.Reader.{formulaRead}
 use Rattle.sheet.specs.declared.answers.Found.{Found}

@@ -10,13 +10,13 @@ use lib.ListN.{length}
 use borrow.Author.Tests.{eq-eqb, ne-eqb, ltb-false, eqb-false}
 use Rattle.layout.specs.Fields.{countOf, formulaNumber}
 use Rattle.records.specs.Faults.{frameFault, bytesAt, startFault, orderFault}
-use Rattle.walking.specs.Walking.{begin, onStep, stepOf, walkFrom, walkOf}
 use Rattle.records.specs.declared.walk.Walk.{Walk}
+use Rattle.records.proofs.Chain.{passed}
+use Rattle.records.proofs.Steps.{framed, length-bytesAt}
+use Rattle.walking.specs.Walking.{begin, onStep, stepOf, walkFrom, walkOf}
 use Rattle.walking.specs.declared.Walked.{Walked}
 use Rattle.walking.specs.declared.Step.{Step}
 use Rattle.walking.specs.declared.Step.the-variants.{More, Done}
-use Rattle.records.proofs.Chain.{passed}
-use Rattle.records.proofs.Steps.{framed, length-bytesAt}
 use Rattle.walking.proofs.Inverted.{Opened, Moved, more}
 
 pub few : (c : ℕ) → startFault c ≡ 0 → (1 ≤ c) × (c ≤ 64)

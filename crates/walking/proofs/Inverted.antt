@@ -8,19 +8,19 @@ use native.Mathlib.Omega.{arith}
 use lib.Dec.{eqb, ltb}
 use lib.ListN.{length}
 use borrow.Author.Tests.{eqb-true, eqb-false, ltb-false}
-use Rattle.layout.specs.Fields.{countOf, formulaNumber, formulaOf}
 use Rattle.table.specs.declared.Class.{Class}
 use Rattle.table.specs.declared.Class.the-variants.{StartRecord, FormulaRecord, EndRecord, Unknown}
+use Rattle.layout.specs.Fields.{countOf, formulaNumber, formulaOf}
 use Rattle.records.specs.Guard.{guard, refusal}
 use Rattle.records.specs.Faults.{frameFault, bytesAt, rowFor, placeFault, lengthFault, startFault, orderFault, endFault, innerFault, classFault, recordFault}
-use Rattle.walking.specs.Walking.{refused, afterStart, afterFormula, ending, classStep, recordStep, stepOf}
 use Rattle.records.specs.declared.walk.Walk.{Walk}
+use Rattle.records.proofs.Chain.{passed, met, neither}
+use Rattle.records.proofs.Steps.{clear}
+use Rattle.walking.specs.Walking.{refused, afterStart, afterFormula, ending, classStep, recordStep, stepOf}
 use Rattle.walking.specs.declared.Walked.{Walked}
 use Rattle.walking.specs.declared.Walked.the-variants.{Whole, Broken}
 use Rattle.walking.specs.declared.Step.{Step}
 use Rattle.walking.specs.declared.Step.the-variants.{More, Done}
-use Rattle.records.proofs.Chain.{passed, met, neither}
-use Rattle.records.proofs.Steps.{clear}
 
 -- ---- a step that is no refusal came past every fault
 

@@ -7,14 +7,14 @@ use native.Mathlib.Omega.{arith}
 use lib.ListN.{length, take, drop, length-append, take-append-drop}
 use lib.Seq.{drop-drop, drop-append-seam, take-append-seam}
 use borrow.Author.Tests.{le-ltb, eq-eqb}
-use Rattle.layout.specs.Numbers.{number4}
 use Rattle.table.specs.declared.Class.{Class}
+use Rattle.layout.specs.Numbers.{number4}
 use Rattle.layout.proofs.NumberLaws.{number4-in, number4-drop, number4-more}
 use Rattle.records.specs.Faults.{frameFault, bytesAt, rowFor, placeFault, lengthFault, classFault, recordFault}
-use Rattle.walking.specs.Walking.{classStep, recordStep, stepOf}
 use Rattle.records.specs.Sheets.{RecordOf}
 use Rattle.records.specs.declared.walk.Walk.{Walk}
 use Rattle.records.proofs.Steps.{framed, length-bytesAt}
+use Rattle.walking.specs.Walking.{classStep, recordStep, stepOf}
 
 -- ---- read there
 

@@ -10,10 +10,10 @@ use borrow.Author.Tests.{eq-eqb, ne-eqb, le-ltb}
 use Rattle.table.specs.declared.Class.the-variants.{StartRecord, FormulaRecord, EndRecord}
 use Rattle.layout.specs.Fields.{countOf, formulaNumber}
 use Rattle.records.specs.Faults.{placeFault, startFault, orderFault, endFault}
-use Rattle.walking.specs.Walking.{foundBy, afterStart, afterFormula, ending, begin, stepOf, walkFrom, walkOf}
 use Rattle.records.specs.Guard.{refusal}
 use Rattle.records.specs.Sheets.{RecordOf, FormulaBytes, EachFormula, Rising, joined, SheetOf}
 use Rattle.records.specs.declared.walk.Walk.{Walk}
+use Rattle.walking.specs.Walking.{foundBy, afterStart, afterFormula, ending, begin, stepOf, walkFrom, walkOf}
 use Rattle.walking.specs.declared.Walked.{Walked}
 use Rattle.walking.specs.declared.Walked.the-variants.{Whole, Broken}
 use Rattle.walking.specs.declared.Step.the-variants.{More, Done}

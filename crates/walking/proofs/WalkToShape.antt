@@ -11,14 +11,14 @@ use borrow.Author.Tests.{eqb-true}
 use Rattle.table.specs.declared.Class.the-variants.{StartRecord, FormulaRecord, EndRecord}
 use Rattle.layout.specs.Fields.{countOf, formulaNumber}
 use Rattle.records.specs.Faults.{bytesAt, endFault}
-use Rattle.walking.specs.Walking.{begin, afterStart, afterFormula, onStep, stepOf, walkFrom, walkOf}
 use Rattle.records.specs.Sheets.{RecordOf, EachFormula, Rising, joined, SheetOf}
 use Rattle.records.specs.declared.walk.Walk.{Walk}
+use Rattle.records.proofs.Chain.{met}
+use Rattle.records.proofs.Steps.{framed, length-bytesAt}
+use Rattle.walking.specs.Walking.{begin, afterStart, afterFormula, onStep, stepOf, walkFrom, walkOf}
 use Rattle.walking.specs.declared.Walked.the-variants.{Whole}
 use Rattle.walking.specs.declared.Step.{Step}
 use Rattle.walking.specs.declared.Step.the-variants.{More, Done}
-use Rattle.records.proofs.Chain.{met}
-use Rattle.records.proofs.Steps.{framed, length-bytesAt}
 use Rattle.walking.proofs.Inverted.{Opened, Moved, Ended, more, ended}
 use Rattle.walking.proofs.Going.{few, ordered, begun}
 use Rattle.walking.proofs.Records.{record-at, split-at}

@@ -3,8 +3,8 @@ use Prim.Native.Nat.{_≤_, _<_}
 use native.Mathlib.Omega.{arith}
 use lib.ListN.{length}
 use Rattle.text.specs.Text.{decimal}
-use Rattle.lines.specs.Listing.{countLine}
 use Rattle.text.proofs.TextLaws.{behind, short}
+use Rattle.lines.specs.Listing.{countLine}
 use Rattle.lines.proofs.put_count.Statement.{statement}
 use Rattle.lines.proofs.put_count.Tie as tie
 

@@ -7,8 +7,8 @@ use mir.Val.{SFits}
 use mir.Facts.{toZ-ofZ}
 use Rattle.layout.specs.Fields.{formulaOf, shapeOf}
 use Rattle.text.specs.Text.{decimal}
-use Rattle.lines.specs.Listing.{lineOf}
 use Rattle.text.proofs.TextLaws.{behind, short}
+use Rattle.lines.specs.Listing.{lineOf}
 use Rattle.lines.proofs.put_line.Statement.{statement}
 use Rattle.lines.proofs.put_line.Tie as tie
 

@@ -6,8 +6,8 @@ use lib.ListN.{length}
 use denote.Ref.{now}
 use Rattle.layout.specs.Numbers.{number4}
 use Rattle.records.proofs.Steps.{part-is}
-use Rattle.lines.specs.Listing.{linesFrom}
 use Rattle.text.proofs.TextLaws.{Left, begin, less, done}
+use Rattle.lines.specs.Listing.{linesFrom}
 use Rattle.lines.proofs.LineLaws.{Ahead, here, one-line, no-line, Whole, whole, start-inside, ahead, shape-of-count}
 use Rattle.lines.proofs.put_lines.Statement.{statement}
 use Rattle.lines.proofs.put_lines.Tie as tie

@@ -3,8 +3,8 @@ use borrow.Author.Needs.{needs}
 use mathlib.Core.Path.{sym, ap, _∙_}
 use denote.Ref.{now}
 use Rattle.record_writer.specs.Answers.{writtenLength, bufferAfter}
-use Rattle.sheet_writer.specs.SheetWriter.{sheetOf}
 use Rattle.record_writer.specs.declared.answers.Writing.{Writing}
+use Rattle.sheet_writer.specs.SheetWriter.{sheetOf}
 use Rattle.measured_writer.proofs.measured_write_sheet.Statement.{statement}
 use Rattle.measured_writer.proofs.measured_write_sheet.Tie as tie
 

@@ -1,8 +1,8 @@
 -- `polynomial::admit` meets its contract: the two answers of `bound`.
 use mathlib.Core.Path.{sym, ap, _∙_}
+use Rattle.admission.specs.declared.Admission.the-variants.{Admitted}
 use Rattle.polynomial.specs.Polynomial.{whenWithin}
 use Rattle.polynomial.specs.declared.Bounding.{Bounding}
-use Rattle.admission.specs.declared.Admission.the-variants.{Admitted}
 use borrow.Author.Needs.{needs}
 use Rattle.polynomial.proofs.admit.Statement.{statement}
 use Rattle.polynomial.proofs.admit.Tie as tie

@@ -6,12 +6,12 @@ use denote.Ref.{now}
 use Rattle.table.specs.Table.{lengthBy}
 use Rattle.layout.proofs.StoreLaws.{sets-front}
 use Rattle.records.proofs.Chain.{halts, goes}
-use Rattle.record_writer.specs.Answers.{refusedBy}
 use Rattle.record_bytes.specs.Kinds.{plainShape, plainBy, plain, rowBy}
 use Rattle.record_bytes.specs.Bytes.{Ready}
+use Rattle.record_bytes.proofs.RecordLaws.{length-record}
+use Rattle.record_writer.specs.Answers.{refusedBy}
 use Rattle.record_writer.specs.RecordWriter.{kindAndCounts, valuesAndRoom, plainWriting, bytesOf}
 use Rattle.record_writer.specs.declared.answers.Writing.the-variants.{Written}
-use Rattle.record_bytes.proofs.RecordLaws.{length-record}
 use Rattle.record_writer.proofs.RecordWriting.{ready, room}
 use Rattle.record_writer.proofs.write_record.Statement.{statement}
 use Rattle.record_writer.proofs.write_record.Tie as tie

@@ -3,9 +3,9 @@ use mathlib.Core.Path.{_∙_, sym, ap}
 use native.Mathlib.Omega.{arith}
 use denote.Ref.{now}
 use lib.ListN.{length}
-use Rattle.walking.specs.Walking.{refused, stepOf}
 use Rattle.records.proofs.Chain.{halts, goes}
 use Rattle.records.proofs.Steps.{Framed, framed, part-is, length-bytesAt}
+use Rattle.walking.specs.Walking.{refused, stepOf}
 use Rattle.walking.proofs.check_record.Statement.{statement}
 use Rattle.walking.proofs.check_record.Tie as tie
 

@@ -6,10 +6,10 @@ use Rattle.table.specs.declared.Class.{Class}
 use Rattle.table.specs.declared.Row.{Row}
 use Rattle.table.proofs.Rule.{ruled}
 use Rattle.records.specs.Faults.{rowFor}
-use Rattle.walking.specs.Walking.{refused, classStep, recordStep}
-use Rattle.walking.specs.declared.Step.the-variants.{More, Done}
 use Rattle.records.proofs.Chain.{halts, goes}
 use Rattle.records.proofs.Steps.{not-full}
+use Rattle.walking.specs.Walking.{refused, classStep, recordStep}
+use Rattle.walking.specs.declared.Step.the-variants.{More, Done}
 use Rattle.walking.proofs.record_step.Statement.{statement}
 use Rattle.walking.proofs.record_step.Tie as tie
 

@@ -5,8 +5,8 @@ use denote.Ref.{now}
 use mathlib.Core.List.{List}
 use lib.ListN.{length}
 use lib.IntN.{ℤ}
-use Rattle.layout.specs.Fields.{shapeOf, loOf, hiOf, wordsOf, padded, formulaOf}
 use Rattle.table.specs.Table.{wordsBy}
+use Rattle.layout.specs.Fields.{shapeOf, loOf, hiOf, wordsOf, padded, formulaOf}
 use Rattle.layout.proofs.Back.{back}
 use Rattle.layout.proofs.Padded.{length-padded}
 use Rattle.records.specs.Faults.{ownFault, wordsFault, valueFault, innerFault}

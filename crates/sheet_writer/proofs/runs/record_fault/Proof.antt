@@ -6,8 +6,8 @@ use Rattle.table.proofs.Rule.{ruled}
 use Rattle.records.specs.Faults.{rowFor}
 use Rattle.records.proofs.Chain.{stop, pass}
 use Rattle.records.proofs.Steps.{formula-placed}
-use Rattle.sheet_writer.specs.Runs.{runRecordFault}
 use Rattle.record_bytes.proofs.KindLaws.{formula-only}
+use Rattle.sheet_writer.specs.Runs.{runRecordFault}
 use Rattle.sheet_writer.proofs.runs.record_fault.Statement.{statement}
 use Rattle.sheet_writer.proofs.runs.record_fault.Tie as tie
 
