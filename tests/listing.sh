@@ -31,6 +31,9 @@ says 'a folder in place of a file' 'refused 1 at 0' <tests
 says 'a byte at a time' $'formulas 1\n1 root 0 33554432' < <(
     for at in $(seq 1 32); do tail -c +"$at" "$room/paper" | head -c 1; sleep 0.01; done)
 
+run_x86 target/bin/listing <"$room/paper" 2>"$room/told" >/dev/full
+if [ "$(cat "$room/told")" = 'the listing could not be written' ]; then pass; else fail "listing to a full disk: told $(head -c 200 "$room/told")"; fi
+
 mkdir "$room/cases"
 python3 -B tests/listings.py "$room/cases" || fail 'tests/listings.py'
 for input in "$room"/cases/*.in; do prints "$(basename "$input" .in)" "${input%.in}.out" <"$input"; done

@@ -6,5 +6,7 @@ fn main() {
     let n = io::read_full(0, &mut sheet);
     let mut text = [0u8; 4096];
     let k = lines::list_sheet(&sheet[..n], &mut text);
-    io::write_all(1, &text[..k]);
+    if !io::write_all(1, &text[..k]) {
+        io::write_all(2, b"the listing could not be written\n");
+    }
 }
