@@ -14,9 +14,9 @@ use Rattle.sheet.specs.declared.answers.Found.the-variants.{Given, Refused as W
 use Rattle.board.specs.Board.{evaluatedDouble}
 use Rattle.board.specs.declared.answers.Evaluation.{Evaluation}
 use Rattle.board.specs.declared.answers.Evaluation.the-variants.{Answered, Refused}
-use Rattle.valvepigeon.specs.Answers.{ShownBy, Spans}
-use Rattle.valvepigeon.specs.declared.answers.ShownValue.{ShownValue}
-use Rattle.valvepigeon.specs.declared.answers.IntervalEnds.{IntervalEnds}
+use Rattle.c_answers.specs.Answers.{ShownBy, Spans}
+use Rattle.c_answers.specs.declared.answers.ShownValue.{ShownValue}
+use Rattle.c_answers.specs.declared.answers.IntervalEnds.{IntervalEnds}
 use Rattle.valvepigeon.proofs.vp_count.Kinds as count-kinds
 use Rattle.valvepigeon.proofs.vp_count.Reads as count-reads
 use Rattle.valvepigeon.proofs.vp_formula.Kinds as formula-kinds

@@ -6,20 +6,17 @@ ghost use Rattle.board.specs.Board.{evaluated, evaluatedDouble};
 ghost use Rattle.record_writer.specs.Answers.{bufferAfter};
 ghost use Rattle.record_writer.specs.RecordWriter.{recordWriting, bytesOf};
 ghost use Rattle.sheet_writer.specs.SheetWriter.{sheetWriting, sheetOf};
-ghost use Rattle.valvepigeon.specs.Fields.{formulaBy};
-ghost use Rattle.valvepigeon.specs.Answers.{counted, found, worked, ShownBy, SpannedBy, written};
-
-pub mod answers;
-mod conversions;
-mod fields;
-
-use answers::CountedFormulas;
-use answers::Fields;
-use answers::FoundFields;
-use answers::IntervalEnds;
-use answers::ShownValue;
-use answers::WorkedWord;
-use answers::WrittenLength;
+ghost use Rattle.c_answers.specs.Fields.{formulaBy};
+ghost use Rattle.c_answers.specs.Answers.{counted, found, worked, ShownBy, SpannedBy, written};
+use c_answers::answers::CountedFormulas;
+use c_answers::answers::Fields;
+use c_answers::answers::FoundFields;
+use c_answers::answers::IntervalEnds;
+use c_answers::answers::ShownValue;
+use c_answers::answers::WorkedWord;
+use c_answers::answers::WrittenLength;
+use c_answers::conversions;
+use c_answers::fields;
 use sheet::reader;
 
 #[no_mangle]

@@ -1,7 +1,7 @@
 -- `valvepigeon::vp_count` meets its contract.
 use borrow.Author.Needs.{needs}
 use mathlib.Core.Path.{ap, _∙_}
-use Rattle.valvepigeon.specs.Answers.{counted}
+use Rattle.c_answers.specs.Answers.{counted}
 use Rattle.valvepigeon.proofs.vp_count.Statement.{statement}
 use Rattle.valvepigeon.proofs.vp_count.Tie as tie
 

@@ -3,7 +3,7 @@ use borrow.Author.Needs.{needs}
 use mathlib.Core.Path.{ap, _∙_}
 use Rattle.whole.proofs.Held.{held, arg}
 use Rattle.board.specs.Board.{evaluated}
-use Rattle.valvepigeon.specs.Answers.{worked}
+use Rattle.c_answers.specs.Answers.{worked}
 use Rattle.valvepigeon.proofs.vp_evaluate.Statement.{statement}
 use Rattle.valvepigeon.proofs.vp_evaluate.Tie as tie
 

@@ -2,9 +2,9 @@
 use borrow.Author.Needs.{needs}
 use mathlib.Core.Path.{sym, subst}
 use Rattle.board.specs.Board.{evaluatedDouble}
-use Rattle.valvepigeon.specs.Answers.{ShownBy}
-use Rattle.valvepigeon.specs.declared.answers.ShownValue.{ShownValue}
-use Rattle.valvepigeon.proofs.DoubleLaws.{shown-by}
+use Rattle.c_answers.specs.Answers.{ShownBy}
+use Rattle.c_answers.specs.declared.answers.ShownValue.{ShownValue}
+use Rattle.c_answers.proofs.DoubleLaws.{shown-by}
 use Rattle.valvepigeon.proofs.vp_evaluate_double.Statement.{statement}
 use Rattle.valvepigeon.proofs.vp_evaluate_double.Tie as tie
 

@@ -1,7 +1,7 @@
 -- `valvepigeon::vp_formula` meets its contract.
 use borrow.Author.Needs.{needs}
 use mathlib.Core.Path.{ap, _∙_}
-use Rattle.valvepigeon.specs.Answers.{found}
+use Rattle.c_answers.specs.Answers.{found}
 use Rattle.valvepigeon.proofs.vp_formula.Statement.{statement}
 use Rattle.valvepigeon.proofs.vp_formula.Tie as tie
 

@@ -2,9 +2,9 @@
 use borrow.Author.Needs.{needs}
 use mathlib.Core.Path.{sym, subst}
 use Rattle.sheet.specs.Reader.{formulaRead}
-use Rattle.valvepigeon.specs.Answers.{SpannedBy}
-use Rattle.valvepigeon.specs.declared.answers.IntervalEnds.{IntervalEnds}
-use Rattle.valvepigeon.proofs.DoubleLaws.{spans-by}
+use Rattle.c_answers.specs.Answers.{SpannedBy}
+use Rattle.c_answers.specs.declared.answers.IntervalEnds.{IntervalEnds}
+use Rattle.c_answers.proofs.DoubleLaws.{spans-by}
 use Rattle.valvepigeon.proofs.vp_interval.Statement.{statement}
 use Rattle.valvepigeon.proofs.vp_interval.Tie as tie
 

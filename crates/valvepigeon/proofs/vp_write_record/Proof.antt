@@ -7,8 +7,8 @@ use Rattle.formula.specs.declared.Formula.{Formula}
 use Rattle.record_writer.specs.Answers.{bufferAfter}
 use Rattle.record_writer.specs.RecordWriter.{recordWriting, bytesOf}
 use Rattle.record_writer.specs.declared.answers.Writing.{Writing}
-use Rattle.valvepigeon.specs.Fields.{formulaBy}
-use Rattle.valvepigeon.specs.Answers.{written}
+use Rattle.c_answers.specs.Fields.{formulaBy}
+use Rattle.c_answers.specs.Answers.{written}
 use Rattle.valvepigeon.proofs.vp_write_record.Statement.{statement}
 use Rattle.valvepigeon.proofs.vp_write_record.Tie as tie
 

@@ -5,7 +5,7 @@ use denote.Ref.{now}
 use Rattle.record_writer.specs.Answers.{bufferAfter}
 use Rattle.record_writer.specs.declared.answers.Writing.{Writing}
 use Rattle.sheet_writer.specs.SheetWriter.{sheetOf}
-use Rattle.valvepigeon.specs.Answers.{written}
+use Rattle.c_answers.specs.Answers.{written}
 use Rattle.valvepigeon.proofs.vp_write_sheet.Statement.{statement}
 use Rattle.valvepigeon.proofs.vp_write_sheet.Tie as tie
 

@@ -1,11 +1,11 @@
--- `valvepigeon::fields::fields_of` meets its contract.
+-- `c_answers::fields::fields_of` meets its contract.
 use borrow.Author.Needs.{needs}
 use mir.Syntax.{w32}
 use mir.Val.{SFits}
 use Rattle.whole.proofs.Held.{held, arg}
-use Rattle.valvepigeon.specs.Fields.{fields}
-use Rattle.valvepigeon.proofs.fields.fields_of.Statement.{statement}
-use Rattle.valvepigeon.proofs.fields.fields_of.Tie as tie
+use Rattle.c_answers.specs.Fields.{fields}
+use Rattle.c_answers.proofs.fields.fields_of.Statement.{statement}
+use Rattle.c_answers.proofs.fields.fields_of.Tie as tie
 
 fits-ends : (c : tie.After-struct-told) → let f = c .before .before .before .before .args .f in SFits w32 (f .lo) × SFits w32 (f .hi)
 fits-ends c = (search (needs, c .struct-told .given), search (needs, c .struct-told .given))

@@ -1,9 +1,9 @@
--- `valvepigeon::conversions::shown` meets its contract.
+-- `c_answers::conversions::shown` meets its contract.
 use borrow.Author.Needs.{needs}
 use mathlib.Core.Path.{sym, ap}
-use Rattle.valvepigeon.specs.Answers.{shown}
-use Rattle.valvepigeon.proofs.conversions.shown.Statement.{statement}
-use Rattle.valvepigeon.proofs.conversions.shown.Tie as tie
+use Rattle.c_answers.specs.Answers.{shown}
+use Rattle.c_answers.proofs.conversions.shown.Statement.{statement}
+use Rattle.c_answers.proofs.conversions.shown.Tie as tie
 
 returns : tie.Need-returns
 returns c = ap shown (sym (c .before .answer .given .1))

@@ -1,9 +1,9 @@
--- `valvepigeon::conversions::written` meets its contract.
+-- `c_answers::conversions::written` meets its contract.
 use borrow.Author.Needs.{needs}
 use mathlib.Core.Path.{sym, ap}
-use Rattle.valvepigeon.specs.Answers.{written}
-use Rattle.valvepigeon.proofs.conversions.written.Statement.{statement}
-use Rattle.valvepigeon.proofs.conversions.written.Tie as tie
+use Rattle.c_answers.specs.Answers.{written}
+use Rattle.c_answers.proofs.conversions.written.Statement.{statement}
+use Rattle.c_answers.proofs.conversions.written.Tie as tie
 
 returns : tie.Need-returns
 returns c = ap written (sym (c .before .answer .given .1))

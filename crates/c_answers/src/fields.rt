@@ -1,6 +1,6 @@
 // A formula as the fields that C sees, and back. The codes of the kinds are those of the table of records.
 ghost use mathlib.Core.Path.{_≡_};
-ghost use Rattle.valvepigeon.specs.Fields.{fieldsOf, noFields, formulaBy};
+ghost use Rattle.c_answers.specs.Fields.{fieldsOf, noFields, formulaBy};
 use crate::answers::Fields;
 use formula::Formula;
 use formula::Shape;

@@ -1,9 +1,9 @@
--- `valvepigeon::conversions::spanned` meets its contract.
+-- `c_answers::conversions::spanned` meets its contract.
 use borrow.Author.Needs.{needs}
 use mathlib.Core.Path.{sym, ap}
-use Rattle.valvepigeon.specs.Answers.{spanned}
-use Rattle.valvepigeon.proofs.conversions.spanned.Statement.{statement}
-use Rattle.valvepigeon.proofs.conversions.spanned.Tie as tie
+use Rattle.c_answers.specs.Answers.{spanned}
+use Rattle.c_answers.proofs.conversions.spanned.Statement.{statement}
+use Rattle.c_answers.proofs.conversions.spanned.Tie as tie
 
 returns : tie.Need-returns
 returns c = ap spanned (sym (c .before .answer .given .1))

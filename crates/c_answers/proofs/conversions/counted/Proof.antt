@@ -1,9 +1,9 @@
--- `valvepigeon::conversions::counted` meets its contract.
+-- `c_answers::conversions::counted` meets its contract.
 use borrow.Author.Needs.{needs}
 use mathlib.Core.Path.{sym, ap}
-use Rattle.valvepigeon.specs.Answers.{counted}
-use Rattle.valvepigeon.proofs.conversions.counted.Statement.{statement}
-use Rattle.valvepigeon.proofs.conversions.counted.Tie as tie
+use Rattle.c_answers.specs.Answers.{counted}
+use Rattle.c_answers.proofs.conversions.counted.Statement.{statement}
+use Rattle.c_answers.proofs.conversions.counted.Tie as tie
 
 returns : tie.Need-returns
 returns c = ap counted (sym (c .before .answer .given .1))

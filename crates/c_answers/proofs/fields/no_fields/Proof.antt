@@ -1,8 +1,8 @@
--- `valvepigeon::fields::no_fields` meets its contract.
+-- `c_answers::fields::no_fields` meets its contract.
 use mathlib.Core.Path.{refl}
 use Rattle.layout.specs.Fields.{padded}
-use Rattle.valvepigeon.proofs.fields.no_fields.Statement.{statement}
-use Rattle.valvepigeon.proofs.fields.no_fields.Tie as tie
+use Rattle.c_answers.proofs.fields.no_fields.Statement.{statement}
+use Rattle.c_answers.proofs.fields.no_fields.Tie as tie
 
 returns : tie.Need-returns
 unfolding padded

@@ -1,4 +1,4 @@
--- `valvepigeon::conversions::worked` meets its contract.
+-- `c_answers::conversions::worked` meets its contract.
 use borrow.Author.Needs.{needs}
 use mathlib.Core.Path.{sym, ap, _∙_}
 use lib.IntN.{ℤ}
@@ -6,9 +6,9 @@ use mir.Syntax.{w32}
 use mir.Val.{SFits}
 use Rattle.whole.proofs.Held.{held, arg}
 use Rattle.board.specs.Board.{answered}
-use Rattle.valvepigeon.specs.Answers.{worked}
-use Rattle.valvepigeon.proofs.conversions.worked.Statement.{statement}
-use Rattle.valvepigeon.proofs.conversions.worked.Tie as tie
+use Rattle.c_answers.specs.Answers.{worked}
+use Rattle.c_answers.proofs.conversions.worked.Statement.{statement}
+use Rattle.c_answers.proofs.conversions.worked.Tie as tie
 
 fits-word : (c : tie.After-struct-told) → SFits w32 (c .before .before .answer .given .0 .0 .word)
 fits-word c = search (needs, c .struct-told .given)

@@ -8,7 +8,7 @@ use Rattle.formula.specs.declared.Formula.{Formula}
 use Rattle.table.specs.Table.{rows, firstRow, rowOf}
 use Rattle.layout.specs.Fields.{shape, formula, padded}
 use Rattle.record_bytes.specs.Kinds.{codeFor}
-use Rattle.valvepigeon.specs.declared.answers.Fields.{Fields}
+use Rattle.c_answers.specs.declared.answers.Fields.{Fields}
 
 abbrev pub fields : ℕ → ℕ → ℤ → ℤ → ℕ → ℕ → ℕ → List ℤ → Fields
 fields k n lo hi p q m ws = record { kind = k; number = n; lo = lo; hi = hi; p = p; q = q; mode = m; words = ws }

@@ -8,7 +8,7 @@ use Rattle.table.specs.Table.{rows, rowOf}
 use Rattle.table.proofs.TableLaws.{_also_, each-row}
 use Rattle.layout.specs.Fields.{shape, formula}
 use Rattle.record_bytes.proofs.KindLaws.{kind-of-row}
-use Rattle.valvepigeon.specs.Fields.{fieldsOf, formulaBy}
+use Rattle.c_answers.specs.Fields.{fieldsOf, formulaBy}
 
 pub fields-back : (f : Formula) → formulaBy (fieldsOf f) ≡ f
 fields-back f = λ i. formula (f .number) (shape (kind-of-row (f .shape .kind) i) (f .shape .p) (f .shape .q) (f .shape .mode)) (f .lo) (f .hi) (f .words)

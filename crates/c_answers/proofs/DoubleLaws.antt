@@ -11,7 +11,7 @@ use Rattle.board.specs.declared.answers.Shown.{Shown}
 use Rattle.board.specs.declared.answers.Shown.the-variants.{Value, Refused as NotShown}
 use Rattle.board.specs.declared.answers.Interval.{Interval}
 use Rattle.board.specs.declared.answers.Interval.the-variants.{Between, Refused as NoInterval}
-use Rattle.valvepigeon.specs.Answers.{shown, spanned, ShownBy, Spans}
+use Rattle.c_answers.specs.Answers.{shown, spanned, ShownBy, Spans}
 
 pub shown-by : (e : Evaluation) (a : Shown) → ShownAs e a → ShownBy e (shown a)
 shown-by (Answered w) (Value x) h = (refl, refl, h)

@@ -18,13 +18,13 @@ use Rattle.board.specs.declared.answers.Interval.{Interval}
 use Rattle.board.specs.declared.answers.Interval.the-variants.{Between, Refused as NoInterval}
 use Rattle.record_writer.specs.declared.answers.Writing.{Writing}
 use Rattle.record_writer.specs.declared.answers.Writing.the-variants.{Written, Refused as NotWritten}
-use Rattle.valvepigeon.specs.declared.answers.CountedFormulas.{CountedFormulas}
-use Rattle.valvepigeon.specs.declared.answers.FoundFields.{FoundFields}
-use Rattle.valvepigeon.specs.declared.answers.WorkedWord.{WorkedWord}
-use Rattle.valvepigeon.specs.declared.answers.ShownValue.{ShownValue}
-use Rattle.valvepigeon.specs.declared.answers.IntervalEnds.{IntervalEnds}
-use Rattle.valvepigeon.specs.declared.answers.WrittenLength.{WrittenLength}
-use Rattle.valvepigeon.specs.Fields.{fieldsOf, noFields}
+use Rattle.c_answers.specs.declared.answers.CountedFormulas.{CountedFormulas}
+use Rattle.c_answers.specs.declared.answers.FoundFields.{FoundFields}
+use Rattle.c_answers.specs.declared.answers.WorkedWord.{WorkedWord}
+use Rattle.c_answers.specs.declared.answers.ShownValue.{ShownValue}
+use Rattle.c_answers.specs.declared.answers.IntervalEnds.{IntervalEnds}
+use Rattle.c_answers.specs.declared.answers.WrittenLength.{WrittenLength}
+use Rattle.c_answers.specs.Fields.{fieldsOf, noFields}
 
 -- the double whose bits are all 0
 abbrev pub plusZero : Float

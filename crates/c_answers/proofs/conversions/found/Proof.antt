@@ -1,11 +1,11 @@
--- `valvepigeon::conversions::found` meets its contract.
+-- `c_answers::conversions::found` meets its contract.
 use borrow.Author.Needs.{needs}
 use mathlib.Core.Path.{sym, ap, _∙_}
 use Rattle.sheet.specs.declared.answers.Found.{Found}
-use Rattle.valvepigeon.specs.declared.answers.Fields.{Fields}
-use Rattle.valvepigeon.specs.Answers.{foundBy}
-use Rattle.valvepigeon.proofs.conversions.found.Statement.{statement}
-use Rattle.valvepigeon.proofs.conversions.found.Tie as tie
+use Rattle.c_answers.specs.declared.answers.Fields.{Fields}
+use Rattle.c_answers.specs.Answers.{foundBy}
+use Rattle.c_answers.proofs.conversions.found.Statement.{statement}
+use Rattle.c_answers.proofs.conversions.found.Tie as tie
 
 returns : tie.Need-returns
 returns c =

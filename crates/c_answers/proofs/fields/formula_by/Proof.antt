@@ -1,11 +1,11 @@
--- `valvepigeon::fields::formula_by` meets its contract.
+-- `c_answers::fields::formula_by` meets its contract.
 use borrow.Author.Needs.{needs}
 use mir.Syntax.{w32}
 use mir.Val.{SFits}
 use Rattle.whole.proofs.Held.{held, arg}
 use Rattle.layout.specs.Fields.{shape, formula}
-use Rattle.valvepigeon.proofs.fields.formula_by.Statement.{statement}
-use Rattle.valvepigeon.proofs.fields.formula_by.Tie as tie
+use Rattle.c_answers.proofs.fields.formula_by.Statement.{statement}
+use Rattle.c_answers.proofs.fields.formula_by.Tie as tie
 
 fits-ends : (c : tie.After-struct-told) → let x = c .before .before .before .args .fields in SFits w32 (x .lo) × SFits w32 (x .hi)
 fits-ends c = (search (needs, c .struct-told .given), search (needs, c .struct-told .given))

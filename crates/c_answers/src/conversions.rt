@@ -1,6 +1,6 @@
 // Each answer of the library as the struct that C is given.
 ghost use mathlib.Core.Path.{_≡_};
-ghost use Rattle.valvepigeon.specs.Answers.{counted, found, worked, shown, spanned, written};
+ghost use Rattle.c_answers.specs.Answers.{counted, found, worked, shown, spanned, written};
 use crate::answers::CountedFormulas;
 use crate::answers::FoundFields;
 use crate::answers::IntervalEnds;
