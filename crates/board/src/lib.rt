@@ -15,14 +15,12 @@ use answers::Worked;
 use door::answer::Taken;
 use layout::fields;
 use layout::numbers;
+use records::faults;
 use records::refusal::Refusal;
 use sheet::answers::Found;
 use sheet::answers::Place;
 use sheet::reader;
 use table::Row;
-
-// Binary places of every word.
-const PLACES: u32 = 24;
 
 fn refused(number: u8) -> Evaluation
     ensures { λ r. ⌜ r ≡ refused number ⌝ }
@@ -44,7 +42,7 @@ fn answer_by(b: &[u8], row: Row, x: i32) -> Evaluation
     let shape = fields::shape_of(b, row);
     let mut words = [0i32; 32];
     fields::stored_words(b, row, &mut words);
-    let word = formula::answer(shape, &words, x, PLACES);
+    let word = formula::answer(shape, &words, x, faults::PLACES);
     Evaluation::Answered(Worked { word })
 }
 

@@ -20,7 +20,7 @@ use table::Field;
 use table::Row;
 
 // Binary places of every word.
-const PLACES: u32 = 24;
+pub const PLACES: u32 = 24;
 
 pub fn frame_fault(s: &[u8], at: usize) -> u8
     requires { ⌜ at ≤ length (now s) ⌝ }

@@ -17,7 +17,7 @@ use records::refusal::Refusal;
 use walking::Walked;
 
 // Above every number: none is asked for.
-const NO_NUMBER: u32 = 65536;
+pub const NO_NUMBER: u32 = 65536;
 
 pub fn formula_count(s: &[u8]) -> FormulaCount
     ensures { λ r. ⌜ r ≡ formulaCount (now (s .entry)) ⌝ }

@@ -15,10 +15,8 @@ use records::faults;
 use records::refusal::Refusal;
 use records::walk::Walk;
 use sheet::answers::FormulaCount;
+use sheet::reader;
 use table::Row;
-
-// Above every number: none is asked for.
-const NO_NUMBER: u32 = 65536;
 
 // A formula's checks in the reader's order. They are put together here, as the reader does it for itself: a function that both
 // called would be too long to stand in line, and a call for each record costs a quarter of the time.
@@ -86,7 +84,7 @@ pub fn run_count(run: &[u8]) -> FormulaCount
         count: 64,
         seen: 0,
         next: 0,
-        asked: NO_NUMBER,
+        asked: reader::NO_NUMBER,
         found: 0,
     };
     while w.at - 8 < run.len() {
