@@ -15,10 +15,10 @@ use mir.Val.{Fits}
 use mir.Facts.{ofZ-toZ}
 use borrow.Author.Tests.{eqb-false, ltb-true, ltb-false}
 use Rattle.table.specs.declared.Field.{Field}
-use Rattle.layout.specs.Numbers.{number2, number4, word4, bytes2, bytes4, pattern}
+use Rattle.layout.specs.Numbers.{number2, number4, word4, bytes2, bytes4, pattern, Bytes}
 use Rattle.layout.specs.Fields.{fieldOf, words, padded}
 use Rattle.layout.proofs.Padded.{length-words}
-use Rattle.record_bytes.proofs.Stores.{Bytes, two, four}
+use Rattle.record_bytes.proofs.Stores.{two, four}
 use Rattle.record_bytes.specs.Bytes.{fieldBytes, wordBytes, size, Stands}
 
 -- ---- parts of a list of bytes

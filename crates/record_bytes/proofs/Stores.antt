@@ -1,19 +1,14 @@
 -- Bytes of a number that stands in a list, and runs of stores.
 use mathlib.Core.Path.{_≡_, _∙_, refl}
 use mathlib.Core.List.{List, _++_}
-use Prim.Native.Nat.{ℕ, _+_, _/_, _%_, _<_}
+use Prim.Native.Nat.{ℕ, _+_, _/_, _%_}
 use native.Mathlib.Omega.{arith}
 use lib.ListN.{length, getD}
 use lib.Seq.{sets}
-use Rattle.layout.specs.Numbers.{number2, number4, bytes2, bytes4}
+use Rattle.layout.specs.Numbers.{Bytes, number2, number4, bytes2, bytes4}
 use Rattle.layout.proofs.StoreLaws.{sets-sets}
 
 -- ---- back to bytes
-
-abbrev pub Bytes : List ℕ → Type 0
-Bytes s = (k : ℕ) → getD s k 0 < 256
-
--- the bytes of a number that stands in a list
 pub two : (s : List ℕ) (at n : ℕ) → Bytes s → number2 s at ≡ n → (getD s at 0 ≡ n % 256) × (getD s (at + 1) 0 ≡ n / 256 % 256)
 unfolding number2
 two s at n h e = (omega (arith, h at, h (at + 1)), omega (arith, h at, h (at + 1)))

@@ -1,7 +1,7 @@
 -- What it says that a writer accepts.
 use mathlib.Core.Path.{_≡_, _∙_, refl, sym, ap}
 use mathlib.Core.Bool.{Bool, true, false, cond}
-use Prim.Native.Nat.{ℕ, _≤_, _<_}
+use Prim.Native.Nat.{ℕ, _≤_}
 use native.Mathlib.Omega.{arith}
 use lib.Dec.{eqb}
 use lib.ListN.{length, getD, take}
@@ -26,14 +26,9 @@ use Rattle.record_bytes.specs.Bytes.{Ready}
 use Rattle.record_bytes.proofs.KindLaws.{code-of-row, code-fits, told}
 use Rattle.record_bytes.proofs.RecordBack.{Tidy}
 use Rattle.record_writer.specs.Answers.{writingNumber, refusedBy}
-use Rattle.record_writer.specs.RecordWriter.{kindAndCounts, valuesAndRoom, plainWriting, recordWriting}
+use Rattle.record_writer.specs.RecordWriter.{kindAndCounts, valuesAndRoom, plainWriting, recordWriting, Handed}
 use Rattle.record_writer.specs.declared.answers.Writing.{Writing}
 use Rattle.record_writer.proofs.RecordWriting.{ready, room}
-
--- a formula as code hands it over: its number fits two bytes, and there are 32 words
-pub record Handed (f : Formula) : Type 0 where
-  pub number : f .number < 65536
-  pub words : length (f .words) ≡ 32
 
 past : (fault : ℕ) (x : Writing) → writingNumber (guard fault refusedBy x) ≡ 0 → (fault ≡ 0) × (writingNumber x ≡ 0)
 past fault x e = at (eqb fault 0) refl e

@@ -1,9 +1,10 @@
 -- The record writer: what it answers for a formula and a buffer of so many bytes, and what it writes.
-use Prim.Native.Nat.{ℕ}
+use Prim.Native.Nat.{ℕ, _<_}
 use mathlib.Core.Path.{_≡_, refl}
 use mathlib.Core.List.{List, [], _∷_}
 use mathlib.Core.Bool.{cond}
 use lib.Dec.{ltb}
+use lib.ListN.{length}
 use lib.IntN.{pos}
 use Rattle.formula.specs.declared.Kind.the-variants.{Root, NoFormula}
 use Rattle.formula.specs.declared.Formula.{Formula}
@@ -40,6 +41,11 @@ recordWriting f room = plainWriting (rowBy f) (plain f) room
 
 abbrev pub bytesOf : Formula → List ℕ
 bytesOf f = recordBytes (rowBy f) (plain f)
+
+-- a formula as code hands it over: its number fits two bytes, and there are 32 words
+pub record Handed (f : Formula) : Type 0 where
+  pub number : f .number < 65536
+  pub words : length (f .words) ≡ 32
 
 -- ---- worked examples: the root of the paper's listing, with fields that a root has not
 abbrev exampleRoot : Formula

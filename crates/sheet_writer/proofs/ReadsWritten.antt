@@ -26,11 +26,12 @@ use Rattle.sheet.proofs.AcceptedShape.{walk-of, shape-count}
 use Rattle.record_bytes.specs.Kinds.{plainBy, plain, rowBy}
 use Rattle.record_bytes.proofs.RecordBack.{formula-back, bytes-back, row-back}
 use Rattle.record_writer.specs.Answers.{writingNumber, refusedBy}
-use Rattle.record_writer.specs.RecordWriter.{recordWriting, bytesOf}
+use Rattle.record_writer.specs.RecordWriter.{Handed, recordWriting, bytesOf}
 use Rattle.record_writer.specs.declared.answers.Writing.the-variants.{Written}
-use Rattle.record_writer.proofs.Accepted.{Handed, accepts, tidy}
+use Rattle.record_writer.proofs.Accepted.{accepts, tidy}
 use Rattle.sheet_writer.specs.Runs.{runCount}
 use Rattle.sheet_writer.specs.SheetWriter.{countedWriting, sheetWriting, sheetBytes, sheetOf}
+use Rattle.sheet_writer.specs.RoundTrips.{EachWritten, Ascending, In, ReadAgain}
 use Rattle.sheet_writer.proofs.RunShape.{RunOf, run-shape, shape-run}
 use Rattle.sheet_writer.proofs.SheetShape.{sheet-shape, sheet-written}
 
@@ -63,20 +64,6 @@ reads-sheet run room n e =
     (c, k .1, rw (k .1) (shape-count c (sheetBytes c run) (sheet-shape c run (k .2) (run-shape run c (k .1)))))
 
 -- ---- formulas that the record writer accepts
-
--- each is as code hands it over, and accepted
-abbrev pub EachWritten : List Formula → Type 0
-EachWritten [] = Unit
-EachWritten (f ∷ fs) = (Handed f × (room : ℕ) × (n : ℕ) × (recordWriting f room ≡ Written n)) × EachWritten fs
-
--- each number above the one before, and the first not below n
-abbrev pub Ascending : ℕ → List Formula → Type 0
-Ascending n [] = Unit
-Ascending n (f ∷ fs) = (n ≤ f .number) × Ascending (f .number + 1) fs
-
-abbrev pub In : {A : Type 0} → A → List A → Type 0
-In x [] = ⊥
-In x (y ∷ ys) = (x ≡ y) ⊎ In x ys
 
 -- its record, and what the reader makes of that
 record Record (f : Formula) : Type 0 where
@@ -150,11 +137,6 @@ reads-record c s h b i = by (noted n (length (h .start)) 0 (h .formulas))
         ap (λ (w : Walked). readAt s (placeAnswer w)) (walk-of c s h n) ∙ given s place (λ z. omega (arith, a .place, z, h .opens .0 .least)) ∙ ap (λ (x : List ℕ). reading Given (formulaOf (rowFor x) x)) there
 
 -- ---- the promise
-
-pub record ReadAgain (fs : List Formula) (run : List ℕ) : Type 0 where
-  pub written : (room : ℕ) → length run + 16 ≤ room → sheetWriting run room ≡ Written (length run + 16)
-  pub count : formulaCount (sheetOf run) ≡ Count (length fs)
-  pub each : (f : Formula) → In f fs → formulaRead (sheetOf run) (f .number) ≡ reading Given (plain f)
 
 pub reads-written : (fs : List Formula) → 1 ≤ length fs → length fs ≤ 64 → EachWritten fs → Ascending 0 fs → ReadAgain fs (joined (map bytesOf fs))
 unfolding sheet-shape

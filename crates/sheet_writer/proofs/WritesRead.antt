@@ -16,7 +16,7 @@ use Rattle.table.specs.declared.Field.{Field}
 use Rattle.table.specs.declared.Row.{Row}
 use Rattle.table.specs.Table.{rowOf, wordsBy, lengthBy}
 use Rattle.table.proofs.Rule.{apart}
-use Rattle.layout.specs.Numbers.{number2, number4, bytes2, bytes4}
+use Rattle.layout.specs.Numbers.{number2, number4, bytes2, bytes4, Bytes}
 use Rattle.layout.specs.Fields.{codeOf, countOf, formulaNumber, loOf, hiOf, shape, formula, firstCount, fieldOf, shapeOf, wordsOf, padded, formulaOf}
 use Rattle.layout.proofs.Padded.{length-words, take-padded}
 use Rattle.records.specs.Faults.{rowFor, outside, countFault, sizeFault, lengthFault, intervalFault, valueFault, innerFault}
@@ -29,7 +29,6 @@ use Rattle.sheet.specs.declared.answers.FormulaCount.the-variants.{Count}
 use Rattle.sheet.proofs.ZeroTail.{end-is-eight}
 use Rattle.sheet.proofs.AcceptedShape.{accepted-shape}
 use Rattle.sheet.proofs.FormulasGiven.{found-exactly}
-use Rattle.record_bytes.proofs.Stores.{Bytes}
 use Rattle.record_bytes.specs.Kinds.{onlyFormula, kept, plainShape, plainBy, plain, rowBy}
 use Rattle.record_bytes.specs.Bytes.{headBytes, fieldBytes, fieldsBytes, recordBytes, size}
 use Rattle.record_bytes.proofs.KindLaws.{ordered, code-found, code-again, start-row, end-code}
@@ -39,9 +38,10 @@ use Rattle.record_writer.specs.RecordWriter.{kindAndCounts, valuesAndRoom, plai
 use Rattle.record_writer.specs.declared.answers.Writing.the-variants.{Written}
 use Rattle.sheet_writer.specs.Runs.{runCount}
 use Rattle.sheet_writer.specs.SheetWriter.{boundBytes, sheetWriting, sheetOf}
+use Rattle.sheet_writer.specs.RoundTrips.{In, runOf, OwnRecord}
 use Rattle.sheet_writer.proofs.RunShape.{none, shape-run}
 use Rattle.sheet_writer.proofs.SheetShape.{sheet-written}
-use Rattle.sheet_writer.proofs.ReadsWritten.{In, reads-record}
+use Rattle.sheet_writer.proofs.ReadsWritten.{reads-record}
 
 -- ---- a record
 
@@ -154,10 +154,6 @@ end-again b c h o e =
     let k = code-found (codeOf b) (λ z. apart (λ x. omega arith) (sym (o .class) ∙ z)) in
     (n, bound-again b 0xffff c h n (o .says) (sym k ∙ end-code (codeOf b) (o .class)) e)
 
--- what stands between a sheet's start and its end
-abbrev pub runOf : List ℕ → List ℕ
-runOf s = take (length s - 16) (drop 8 s)
-
 pub writes-sheet : (s : List ℕ) (room : ℕ) → Accepted s → Bytes s → length s ≤ room → (sheetWriting (runOf s) room ≡ Written (length s)) × (sheetOf (runOf s) ≡ s)
 writes-sheet s room a h g =
     let c = countValue (formulaCount s) in
@@ -183,14 +179,6 @@ member b (x ∷ xs) f h (inr i) = member b xs (f .1) (bytes-right x (joined xs) 
 holder : (n : ℕ) (bs : List (List ℕ)) → Has n bs → (b : List ℕ) × In b bs × (formulaNumber b ≡ n)
 holder n (x ∷ xs) (inl e) = (x, inl refl, e)
 holder n (x ∷ xs) (inr i) = let t = holder n xs i in (t .0, inr (t .1), t .2)
-
--- the record of a number in a sheet: what the reader gives for the number is written as that record's own bytes
-pub record OwnRecord (s : List ℕ) (n : ℕ) (bs : List (List ℕ)) : Type 0 where
-  pub here : List ℕ
-  pub one : In here bs
-  pub number : formulaNumber here ≡ n
-  pub bytes : bytesOf (formulaRead s n .formula) ≡ here
-  pub written : (room : ℕ) → length here ≤ room → recordWriting (formulaRead s n .formula) room ≡ Written (length here)
 
 pub writes-record : (c : ℕ) (s : List ℕ) (h : SheetOf c s) (n : ℕ) → Bytes s → Answered s n → OwnRecord s n (h .formulas)
 writes-record c s h n t a =
