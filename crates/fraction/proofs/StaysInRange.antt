@@ -72,7 +72,7 @@ walk-ready s mode ws k x r =
     record {
       scale = r .scale;
       words = r .words;
-      room = r .room;
+      room = omega (arith, r .room);
       first-word = first-word mode x (productOf s x x) (r .x-word) w;
       rest-word = w;
       t-word = r .words (k + k);

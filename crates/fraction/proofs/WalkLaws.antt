@@ -1,12 +1,22 @@
 -- The walk outward, step by step, as the code meets it.
 use mathlib.Core.Path.{_≡_, refl, sym, ap, ap₂, _∙_, subst}
 use mathlib.Core.List.{List}
-use Prim.Native.Nat.{ℕ, zero, suc, _+_, _≤_}
+use Prim.Native.Nat.{ℕ, zero, suc, _+_, _*_, _<_, _≤_}
 use native.Mathlib.Omega.{arith}
 use lib.IntN.{ℤ, natAbs}
 use Rattle.word.specs.Words.{Word}
+use Rattle.stored.specs.Numbers.{word4}
+use Rattle.stored.specs.Words.{words}
+use Rattle.stored.proofs.WordsLaws.{word-at}
 use Rattle.fraction.specs.Fraction.{bAt, aAfter, at, firstOf, restOf, nextOf, outward, outwardNumbers, outwardDivisors}
 use Rattle.fraction.specs.Ready.{StepReady, OutwardReady}
+
+-- ---- where b_i and a_(i+1) stand
+pub b-is : (b : List ℕ) (at m i : ℕ) → i + i < m → word4 b (at + 8 * i) ≡ bAt (words b at m) i
+b-is b at m i h = let e : at + 8 * i ≡ at + 4 * (i + i) = omega arith in ap (word4 b) e ∙ sym (word-at b at m (i + i) h)
+
+pub a-is : (b : List ℕ) (at m i : ℕ) → i + i + 1 < m → word4 b (at + 8 * i + 4) ≡ aAfter (words b at m) i
+a-is b at m i h = let e : at + 8 * i + 4 ≡ at + 4 * (i + i + 1) = omega arith in ap (word4 b) e ∙ sym (word-at b at m (i + i + 1) h)
 
 -- ---- the choice of v
 pub at-first : {A : Type 0} (first rest : A) (i : ℕ) → i ≡ 0 → at first rest i ≡ first

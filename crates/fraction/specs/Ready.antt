@@ -26,7 +26,7 @@ pub record StepReady (s : ℕ) (a b v t : ℤ) : Type 0 where
 pub record OutwardReady (s : ℕ) (first rest : ℤ) (ws : List ℤ) (j : ℕ) (t : ℤ) : Type 0 where
   pub scale : Scale s
   pub words : Words ws
-  pub room : j + j < 32
+  pub room : j + j ≤ length ws
   pub first-word : Word first
   pub rest-word : Word rest
   pub t-word : Word t
@@ -37,7 +37,7 @@ pub record OutwardReady (s : ℕ) (first rest : ℤ) (ws : List ℤ) (j : ℕ) (
 pub record FractionReady (s mode : ℕ) (ws : List ℤ) (k : ℕ) (x : ℤ) : Type 0 where
   pub scale : Scale s
   pub words : Words ws
-  pub room : k + k < 32
+  pub room : k + k < length ws
   pub x-word : Word x
   pub most : ℕ
   pub within : natAbs x ≤ most
@@ -47,5 +47,5 @@ pub record FractionReady (s mode : ℕ) (ws : List ℤ) (k : ℕ) (x : ℤ) : Ty
 abbrev pub TermAsked : ℕ → ℤ → ℤ → ℕ → Type 0
 TermAsked s a b l = Scale s × Word a × Word b × (0 < l)
 
-abbrev pub AdmissionAsked : ℕ → List ℤ → ℕ → Type 0
-AdmissionAsked s ws k = Scale s × Words ws × (k + k < length ws)
+abbrev pub AdmissionAsked : ℕ → List ℤ → Type 0
+AdmissionAsked s ws = Scale s × Words ws

@@ -1,6 +1,8 @@
-// Continued fractions b0 + a1·v1/(b1 + a2·v2/(b2 + ..)) over words, stored as b0, a1, b1, a2, ..
+// Continued fractions b0 + a1·v1/(b1 + a2·v2/(b2 + ..)) over words that stand in bytes, from `at` on: b0, a1, b1, a2, ..
 ghost use mathlib.Core.Path.{_≡_};
+ghost use Prim.Native.Nat.{_+_, _*_, _^_, _<_};
 ghost use Rattle.word.specs.Words.{Word, Scale, productOf};
+ghost use Rattle.stored.specs.Words.{words, Stretch};
 ghost use Rattle.fraction.specs.Fraction.{at, firstOf, restOf, nextOf, outward, fractionOf};
 ghost use Rattle.fraction.specs.Ready.{StepReady, OutwardReady, FractionReady, TermAsked, AdmissionAsked};
 ghost use Rattle.fraction.specs.Admission.{termBound, admitInner, fractionAdmission};
@@ -28,17 +30,22 @@ fn next(a: i32, b: i32, v: i32, t: i32, s: u32) -> i32
     ((b as i64) + word::quotient(g, t, s)) as i32
 }
 
-// From t, the word at depth j, outward to the answer. The remaining depth j falls by one.
-fn outward(words: &[i32; 32], j: usize, t: i32, first: i32, rest: i32, s: u32) -> i32
-    requires { ⌜ OutwardReady s first rest (now words) j t ⌝ }
-    ensures { λ r. ⌜ r ≡ outward s first rest (now (words .entry)) j t ⌝ }
+// From t, the word at depth j, outward to the answer, over the m words from `at` on. The remaining depth j falls by one.
+// The slice is handed on by a reference to it: LLVM then makes a loop of the calls, while a slice would be copied for each.
+fn outward(r: &&[u8], at: usize, m: usize, j: usize, t: i32, first: i32, rest: i32, s: u32) -> i32
+    requires { ⌜ Stretch (now (now r)) at m × (at + 4 * m < 2 ^ 64) × OutwardReady s first rest (words (now (now r)) at m) j t ⌝ }
+    ensures { λ z. ⌜ z ≡ outward s first rest (words (now (now (r .entry))) at m) j t ⌝ }
 {
     if j == 0 {
         return t;
     }
     let i = j - 1;
-    let u = next(words[i + i + 1], words[i + i], factor(i, first, rest), t, s);
-    outward(words, i, u, first, rest, s)
+    let b = *r;
+    let place = at + 8 * i;
+    let a = stored::get_word(b, place + 4);
+    let c = stored::get_word(b, place);
+    let u = next(a, c, factor(i, first, rest), t, s);
+    outward(r, at, m, i, u, first, rest, s)
 }
 
 // v1 of x and its square q.
@@ -60,12 +67,15 @@ fn rest_of(mode: u32, x: i32, s: u32) -> i32
 }
 
 // The fraction of depth k at x.
-pub fn answer(words: &[i32; 32], k: usize, mode: u32, x: i32, s: u32) -> i32
-    requires { ⌜ FractionReady s mode (now words) k x ⌝ }
-    ensures { λ r. ⌜ r ≡ fractionOf s mode (now (words .entry)) k x ⌝ }
+pub fn answer(b: &[u8], at: usize, k: usize, mode: u32, x: i32, s: u32) -> i32
+    requires { ⌜ Stretch (now b) at (k + k + 1) × FractionReady s mode (words (now b) at (k + k + 1)) k x ⌝ }
+    ensures { λ r. ⌜ r ≡ fractionOf s mode (words (now (b .entry)) at (k + k + 1)) k x ⌝ }
 {
     let rest = rest_of(mode, x, s);
-    outward(words, k, words[k + k], first_of(mode, x, rest), rest, s)
+    let first = first_of(mode, x, rest);
+    let t = stored::get_word(b, at + 8 * k);
+    let lent = b;
+    outward(&lent, at, k + k + 1, k, t, first, rest, s)
 }
 
 // What the bounds of one term leave: the least size of what stands there (0: it may reach 0), or that the range may be left.
@@ -95,20 +105,21 @@ fn term_bound(a: i32, b: i32, v: u32, l: u32, s: u32) -> TermBound
 }
 
 // From the innermost term outward: `first` bounds |v_1|, `rest` the others.
-fn admit_inner(words: &[i32], k: usize, first: u32, rest: u32, s: u32) -> Admission
-    requires { ⌜ AdmissionAsked s (now words) k ⌝ }
-    ensures { λ r. ⌜ r ≡ admitInner s first rest (now (words .entry)) k ⌝ }
+fn admit_inner(b: &[u8], at: usize, k: usize, first: u32, rest: u32, s: u32) -> Admission
+    requires { ⌜ Stretch (now b) at (k + k + 1) × AdmissionAsked s (words (now b) at (k + k + 1)) ⌝ }
+    ensures { λ r. ⌜ r ≡ admitInner s first rest (words (now (b .entry)) at (k + k + 1)) k ⌝ }
 {
     let mut j = k;
-    let mut l = word::magnitude(words[k + k]);
+    let mut l = word::magnitude(stored::get_word(b, at + 8 * k));
     while j > 0 {
         if l == 0 {
             return Admission::DivisorZero;
         }
         j -= 1;
+        let place = at + 8 * j;
         let bound = term_bound(
-            words[j + j + 1],
-            words[j + j],
+            stored::get_word(b, place + 4),
+            stored::get_word(b, place),
             factor_bound(j, first, rest),
             l,
             s,
@@ -129,17 +140,17 @@ fn first_bound(mode: u32, most: u32, square: u32) -> u32
 }
 
 // `most` is the larger of |lo| and |hi|.
-pub fn admit(words: &[i32], k: usize, mode: u32, most: u32, s: u32) -> Admission
-    requires { ⌜ AdmissionAsked s (now words) k ⌝ }
-    ensures { λ r. ⌜ r ≡ fractionAdmission s most mode (now (words .entry)) k ⌝ }
+pub fn admit(b: &[u8], at: usize, k: usize, mode: u32, most: u32, s: u32) -> Admission
+    requires { ⌜ Stretch (now b) at (k + k + 1) × AdmissionAsked s (words (now b) at (k + k + 1)) ⌝ }
+    ensures { λ r. ⌜ r ≡ fractionAdmission s most mode (words (now (b .entry)) at (k + k + 1)) k ⌝ }
 {
     if mode == 0 {
-        return admit_inner(words, k, most, most, s);
+        return admit_inner(b, at, k, most, most, s);
     }
     let square = word::bound_product(most, most, s);
     if 2147483647 < square {
         return Admission::RangeLeft;
     }
     let rest = square as u32;
-    admit_inner(words, k, first_bound(mode, most, rest), rest, s)
+    admit_inner(b, at, k, first_bound(mode, most, rest), rest, s)
 }

@@ -13,6 +13,7 @@ use borrow.Author.Tests.{ltb-false, lt-ltb, le-ltb}
 use Rattle.word.specs.Words.{unit, boundProduct}
 use Rattle.word.proofs.RoundedLaws.{up-least}
 use Rattle.word.proofs.WordLaws.{unit-pos}
+use Rattle.admission.specs.Lists.{Words}
 use Rattle.admission.specs.declared.Admission.{Admission}
 use Rattle.admission.specs.declared.Admission.the-variants.{Admitted}
 use Rattle.admission.proofs.AdmissionLaws.{left-not}
@@ -76,6 +77,13 @@ unfolding boundOf
 within-range s A [] b e k = none s A k
 within-range s A (c ∷ cs) b e zero = omega (arith, within-is s A (c ∷ cs) b e, next-out s A c (boundOf s A cs) b e .most)
 within-range s A (c ∷ cs) b e (suc k) = let q = next-out s A c (boundOf s A cs) b e in within-range s A cs (q .old) (q .was) k
+
+-- so every coefficient is a word
+pub within-words : (s A : ℕ) (ws : List ℤ) (b : ℕ) → boundOf s A ws ≡ Within b → Words ws
+unfolding boundOf
+within-words s A [] b e i = omega arith
+within-words s A (c ∷ cs) b e zero = let q = next-out s A c (boundOf s A cs) b e in omega (arith, q .is, q .most)
+within-words s A (c ∷ cs) b e (suc i) = let q = next-out s A c (boundOf s A cs) b e in within-words s A cs (q .old) (q .was) i
 
 -- of an admitted chain
 pub within-out : (r : Bounding) (next : ℕ → Admission) → whenWithin r next ≡ Admitted → (b : ℕ) × (r ≡ Within b) × (next b ≡ Admitted)

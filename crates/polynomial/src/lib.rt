@@ -1,7 +1,8 @@
-// Polynomials over words: the answer, and the bounds that admission needs. The coefficients stand lowest power first.
+// Polynomials over words that stand in bytes: the answer, and the bounds that admission needs. The m coefficients stand from `at` on,
+// lowest power first.
 ghost use mathlib.Core.Path.{_≡_};
 ghost use Rattle.word.specs.Words.{Scale};
-ghost use Rattle.admission.specs.Lists.{Words};
+ghost use Rattle.stored.specs.Words.{words, Stretch};
 ghost use Rattle.polynomial.specs.Polynomial.{horner, boundOf, polynomialAdmission, PolynomialReady};
 use admission::Admission;
 
@@ -11,42 +12,43 @@ pub enum Bounding {
     Beyond,
 }
 
-pub fn answer(words: &[i32], x: i32, s: u32) -> i32
-    requires { ⌜ PolynomialReady s (now words) x ⌝ }
-    ensures { λ r. ⌜ r ≡ horner s (now (words .entry)) x ⌝ }
+pub fn answer(b: &[u8], at: usize, m: usize, x: i32, s: u32) -> i32
+    requires { ⌜ Stretch (now b) at m × PolynomialReady s (words (now b) at m) x ⌝ }
+    ensures { λ r. ⌜ r ≡ horner s (words (now (b .entry)) at m) x ⌝ }
 {
-    let mut i = words.len() - 1;
-    let mut running = words[i];
+    let mut i = m - 1;
+    let mut running = stored::get_word(b, at + 4 * i);
     while i > 0 {
         i -= 1;
-        running = ((words[i] as i64) + word::product(running, x, s)) as i32;
+        running = ((stored::get_word(b, at + 4 * i) as i64) + word::product(running, x, s)) as i32;
     }
     running
 }
 
-// `most` is the larger of |lo| and |hi|.
-pub fn bound(words: &[i32], most: u32, s: u32) -> Bounding
-    requires { ⌜ Scale s × Words (now words) ⌝ }
-    ensures { λ r. ⌜ r ≡ boundOf s most (now (words .entry)) ⌝ }
+// `most` is the larger of |lo| and |hi|. A pattern that is no word is above the largest one, so that it is Beyond.
+pub fn bound(b: &[u8], at: usize, m: usize, most: u32, s: u32) -> Bounding
+    requires { ⌜ Scale s × Stretch (now b) at m ⌝ }
+    ensures { λ r. ⌜ r ≡ boundOf s most (words (now (b .entry)) at m) ⌝ }
 {
-    let mut i = words.len();
-    let mut b = 0u32;
+    let mut i = m;
+    let mut low = 0u32;
     while 0 < i {
         i -= 1;
-        let n = (word::magnitude(words[i]) as u64) + word::bound_product(b, most, s);
+        let c = stored::get_word(b, at + 4 * i);
+        let n = (word::magnitude(c) as u64) + word::bound_product(low, most, s);
         if 2147483647 < n {
             return Bounding::Beyond;
         }
-        b = n as u32;
+        low = n as u32;
     }
-    Bounding::Within(b)
+    Bounding::Within(low)
 }
 
-pub fn admit(words: &[i32], most: u32, s: u32) -> Admission
-    requires { ⌜ Scale s × Words (now words) ⌝ }
-    ensures { λ r. ⌜ r ≡ polynomialAdmission s most (now (words .entry)) ⌝ }
+pub fn admit(b: &[u8], at: usize, m: usize, most: u32, s: u32) -> Admission
+    requires { ⌜ Scale s × Stretch (now b) at m ⌝ }
+    ensures { λ r. ⌜ r ≡ polynomialAdmission s most (words (now (b .entry)) at m) ⌝ }
 {
-    match bound(words, most, s) {
+    match bound(b, at, m, most, s) {
         Bounding::Within(_) => Admission::Admitted,
         Bounding::Beyond => Admission::RangeLeft,
     }

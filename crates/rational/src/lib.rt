@@ -1,19 +1,18 @@
-// Rational formulas over words: a numerator and a divisor, each a polynomial.
+// Rational formulas over words that stand in bytes: a numerator of p coefficients from `at` on, and behind it a divisor of q.
 ghost use mathlib.Core.Path.{_≡_};
-ghost use Prim.Native.Nat.{_<_, _≤_};
-ghost use lib.ListN.{length};
+ghost use Prim.Native.Nat.{_+_, _*_, _<_, _≤_};
 ghost use Rattle.word.specs.Words.{Scale, largest};
-ghost use Rattle.admission.specs.Lists.{Words};
+ghost use Rattle.stored.specs.Words.{words, Stretch};
 ghost use Rattle.rational.specs.Rational.{rationalOf, rationalAdmission, ratioAdmission, RationalReady};
 use admission::Admission;
 use polynomial::Bounding;
 
-pub fn answer(num: &[i32], den: &[i32], x: i32, s: u32) -> i32
-    requires { ⌜ RationalReady s (now num) (now den) x ⌝ }
-    ensures { λ r. ⌜ r ≡ rationalOf s (now (num .entry)) (now (den .entry)) x ⌝ }
+pub fn answer(b: &[u8], at: usize, p: usize, q: usize, x: i32, s: u32) -> i32
+    requires { ⌜ Stretch (now b) at (p + q) × RationalReady s (words (now b) at p) (words (now b) (at + 4 * p) q) x ⌝ }
+    ensures { λ r. ⌜ r ≡ rationalOf s (words (now (b .entry)) at p) (words (now (b .entry)) (at + 4 * p) q) x ⌝ }
 {
-    let n = polynomial::answer(num, x, s);
-    let d = polynomial::answer(den, x, s);
+    let n = polynomial::answer(b, at, p, x, s);
+    let d = polynomial::answer(b, at + 4 * p, q, x, s);
     word::quotient(n, d, s) as i32
 }
 
@@ -37,15 +36,17 @@ fn admit_ratio(top: u32, first: u32, rest: u32, most: u32, s: u32) -> Admission
 }
 
 // `most` is the larger of |lo| and |hi|.
-pub fn admit(num: &[i32], den: &[i32], most: u32, s: u32) -> Admission
-    requires { ⌜ Scale s × Words (now num) × Words (now den) × (0 < length (now den)) ⌝ }
-    ensures { λ r. ⌜ r ≡ rationalAdmission s most (now (num .entry)) (now (den .entry)) ⌝ }
+pub fn admit(b: &[u8], at: usize, p: usize, q: usize, most: u32, s: u32) -> Admission
+    requires { ⌜ Scale s × Stretch (now b) at (p + q) × (0 < q) ⌝ }
+    ensures { λ r. ⌜ r ≡ rationalAdmission s most (words (now (b .entry)) at p) (words (now (b .entry)) (at + 4 * p) q) ⌝ }
 {
-    let Bounding::Within(top) = polynomial::bound(num, most, s) else {
+    let den = at + 4 * p;
+    let Bounding::Within(top) = polynomial::bound(b, at, p, most, s) else {
         return Admission::RangeLeft;
     };
-    let Bounding::Within(rest) = polynomial::bound(&den[1..], most, s) else {
+    let Bounding::Within(rest) = polynomial::bound(b, den + 4, q - 1, most, s) else {
         return Admission::RangeLeft;
     };
-    admit_ratio(top, word::magnitude(den[0]), rest, most, s)
+    let first = word::magnitude(stored::get_word(b, den));
+    admit_ratio(top, first, rest, most, s)
 }

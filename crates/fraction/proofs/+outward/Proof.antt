@@ -2,18 +2,21 @@
 use borrow.Author.Needs.{needs}
 use mathlib.Core.Path.{_≡_, refl, sym, ap₂, _∙_, subst}
 use mathlib.Core.List.{List}
-use Prim.Native.Nat.{ℕ, suc, _+_, _-_, _<_}
+use Prim.Native.Nat.{ℕ, suc, _+_, _*_, _-_, _<_, _≤_}
 use native.Mathlib.Omega.{arith}
-use lib.IntN.{ℤ, pos}
-use lib.ListN.{getD}
+use lib.IntN.{ℤ}
+use lib.ListN.{length}
 use mir.Syntax.{w32}
 use Rattle.whole.proofs.Fit.{fit-abs}
 use Rattle.whole.proofs.Held.{back, held, arg, known, given}
+use Rattle.stored.specs.Words.{words}
+use Rattle.stored.proofs.WordsLaws.{length-words}
 use Rattle.fraction.specs.Fraction.{bAt, aAfter, at, nextOf}
 use Rattle.fraction.specs.Ready.{StepReady, OutwardReady}
-use Rattle.fraction.proofs.WalkLaws.{outward-done, outward-step, outward-same, next-same, step-ready, step-same, next-ready, ready-same}
+use Rattle.fraction.proofs.WalkLaws.{b-is, a-is, outward-done, outward-step, outward-same, next-same, step-ready, step-same, next-ready, ready-same}
 use borrow.Fn.Kinds.{In}
 use borrow.Fn.PlainCycle.{Measures, is, falls, and}
+use Rattle.stored.proofs.get_word.Reads as get-word-reads
 use Rattle.fraction.proofs.outward.Reads as outward
 use Rattle.fraction.proofs.outward.Kinds as outward-kinds
 use Rattle.fraction.proofs.+outward.Lts-outward as outward-lts
@@ -22,105 +25,122 @@ use Rattle.fraction.proofs.next.Reads as next-reads
 use Rattle.fraction.proofs.+outward.{statement}
 use Rattle.fraction.proofs.+outward.Tie.{close}
 
-abbrev μ-outward : Measures 1 outward-kinds.ps ℕ
-μ-outward κs a = a .1 .0
+abbrev μ-outward : Measures 2 outward-kinds.ps ℕ
+μ-outward κs a = a .1 .1 .1 .0
 
-abbrev outward-at : ℕ → In 1 outward-kinds.ps
-outward-at m = and 1 outward-kinds.ps (is 1 outward-kinds.ps μ-outward m) outward.Pre
+abbrev outward-at : ℕ → In 2 outward-kinds.ps
+outward-at n = and 2 outward-kinds.ps (is 2 outward-kinds.ps μ-outward n) outward.Pre
 
-abbrev outward-below : ℕ → In 1 outward-kinds.ps
-outward-below m = and 1 outward-kinds.ps (falls 1 outward-kinds.ps _<_ μ-outward m) outward.Pre
+abbrev outward-below : ℕ → In 2 outward-kinds.ps
+outward-below n = and 2 outward-kinds.ps (falls 2 outward-kinds.ps _<_ μ-outward n) outward.Pre
 
--- what the calls ask and give: `factor`, `next`, and `outward` at a smaller depth
+-- what the calls ask and give: `get_word`, `factor`, `next`, and `outward` at a smaller depth
 abbrev calls : ℕ → outward-lts.Claims
-calls m = (factor-reads.Asked, factor-reads.Learnt, next-reads.Asked, next-reads.Learnt, outward-below m, outward.Post)
+calls n = (get-word-reads.Asked, get-word-reads.Learnt, factor-reads.Asked, factor-reads.Learnt, next-reads.Asked, next-reads.Learnt, outward-below n, outward.Post)
 
-module _ (m : ℕ) where
-  -- ---- one step down from depth j: the operands of `next`, as they are read
-  module _ (c : outward-lts.After-factor (calls m) (outward-at m) outward.Post) where
-    abbrev start : outward-lts.Start (calls m) (outward-at m) outward.Post
-    start = c .before .before .before .before
-
-    abbrev s : ℕ
-    s = start .args .s
+module _ (n : ℕ) where
+  -- ---- at a depth above 0: the words of one step stand within the bytes
+  module _ (c : outward-lts.Else1 (calls n) (outward-at n) outward.Post) where
+    abbrev S : ℕ
+    S = c .before .args .s
 
     abbrev ws : List ℤ
-    ws = start .args .words .now
+    ws = words (c .before .args .r .now .now) (c .before .args .at) (c .before .args .m)
 
     abbrev i : ℕ
-    i = start .args .j - 1
+    i = c .before .args .j - 1
 
-    depth : start .args .j ≡ suc i
-    depth = omega (arith, c .before .before .before .if1 .left)
+    depth : c .before .args .j ≡ suc i
+    depth = omega (arith, c .if1 .left)
 
-    ready : OutwardReady s (start .args .first) (start .args .rest) ws (suc i) (start .args .t)
-    ready = subst (λ (j : ℕ). OutwardReady s (start .args .first) (start .args .rest) ws j (start .args .t)) depth (start .pre .1)
+    inside : i + i + 2 ≤ c .before .args .m
+    inside = omega (arith, depth, c .before .pre .1 .2 .room, length-words (c .before .args .r .now .now) (c .before .args .at) (c .before .args .m))
 
-    now-step : StepReady s (aAfter ws i) (bAt ws i) (at (start .args .first) (start .args .rest) i) (start .args .t)
-    now-step = step-ready s (start .args .first) (start .args .rest) ws i (start .args .t) ready
+    ready : OutwardReady S (c .before .args .first) (c .before .args .rest) ws (suc i) (c .before .args .t)
+    ready = subst (λ (j : ℕ). OutwardReady S (c .before .args .first) (c .before .args .rest) ws j (c .before .args .t)) depth (c .before .pre .1 .2)
 
-    stored : (k : ℕ) → back w32 (getD ws k (pos 0)) ≡ getD ws k (pos 0)
-    stored k = held (arg {x = getD ws k (pos 0)} (fit-abs (omega (arith, start .pre .1 .words k))))
+    now-step : StepReady S (aAfter ws i) (bAt ws i) (at (c .before .args .first) (c .before .args .rest) i) (c .before .args .t)
+    now-step = step-ready S (c .before .args .first) (c .before .args .rest) ws i (c .before .args .t) ready
 
-    v-is : back w32 (c .factor .result) ≡ at (start .args .first) (start .args .rest) i
-    v-is = held {w = w32} (known (c .factor .ensures ∙ ap₂ (λ (x y : ℤ). at x y i) (held (arg (start .fits .first))) (held (arg (start .fits .rest)))) (fit-abs (omega (arith, now-step .v-word))))
+    t-is : back w32 (c .before .args .t) ≡ c .before .args .t
+    t-is = held (arg (c .before .fits .t))
 
-    t-is : back w32 (start .args .t) ≡ start .args .t
-    t-is = held (arg (start .fits .t))
+  -- ---- the operands of `next`, as they are read
+  module _ (c : outward-lts.After-factor (calls n) (outward-at n) outward.Post) where
+    abbrev turn : outward-lts.Else1 (calls n) (outward-at n) outward.Post
+    turn = c .before .before .before .before
+
+    abbrev d : outward-lts.Start (calls n) (outward-at n) outward.Post
+    d = turn .before
+
+    a-read : back w32 (c .before .before .get-word .result) ≡ aAfter (ws turn) (i turn)
+    a-read = held {w = w32} (known (c .before .before .get-word .ensures ∙ a-is (d .args .r .now .now) (d .args .at) (d .args .m) (i turn) (omega (arith, inside turn))) (fit-abs (omega (arith, now-step turn .a-word))))
+
+    b-read : back w32 (c .before .get-word2 .result) ≡ bAt (ws turn) (i turn)
+    b-read = held {w = w32} (known (c .before .get-word2 .ensures ∙ b-is (d .args .r .now .now) (d .args .at) (d .args .m) (i turn) (omega (arith, inside turn))) (fit-abs (omega (arith, now-step turn .b-word))))
+
+    v-is : back w32 (c .factor .result) ≡ at (d .args .first) (d .args .rest) (i turn)
+    v-is = held {w = w32} (known (c .factor .ensures ∙ ap₂ (λ (x y : ℤ). at x y (i turn)) (held (arg (d .fits .first))) (held (arg (d .fits .rest)))) (fit-abs (omega (arith, now-step turn .v-word))))
 
   -- ---- and the word at depth j - 1
-  module _ (c : outward-lts.After-next (calls m) (outward-at m) outward.Post) where
-    abbrev before-next : outward-lts.After-factor (calls m) (outward-at m) outward.Post
-    before-next = c .before
-
-    abbrev d : outward-lts.Start (calls m) (outward-at m) outward.Post
-    d = start before-next
+  module _ (c : outward-lts.After-next (calls n) (outward-at n) outward.Post) where
+    abbrev step : outward-lts.Else1 (calls n) (outward-at n) outward.Post
+    step = turn (c .before)
 
     abbrev u : ℤ
-    u = nextOf (s before-next) (aAfter (ws before-next) (i before-next)) (bAt (ws before-next) (i before-next)) (at (d .args .first) (d .args .rest) (i before-next)) (d .args .t)
+    u = nextOf (S step) (aAfter (ws step) (i step)) (bAt (ws step) (i step)) (at (step .before .args .first) (step .before .args .rest) (i step)) (step .before .args .t)
 
     u-is : back w32 (c .next .result) ≡ u
-    u-is =
-        let k = i before-next in
-        held {w = w32} (known (c .next .ensures ∙ next-same (s before-next) (stored before-next (k + k + 1)) (stored before-next (k + k)) (v-is before-next) (t-is before-next)) (fit-abs (omega (arith, now-step before-next .sum))))
+    u-is = held {w = w32} (known (c .next .ensures ∙ next-same (S step) (a-read (c .before)) (b-read (c .before)) (v-is (c .before)) (t-is step)) (fit-abs (omega (arith, now-step step .sum))))
 
-  returns : outward-lts.Need-returns (calls m) (outward-at m) outward.Post
+  returns : outward-lts.Need-returns (calls n) (outward-at n) outward.Post
   returns c =
-      let d = c .before in
-      held (arg (d .fits .t)) ∙ sym (outward-done (d .args .s) (d .args .first) (d .args .rest) (d .args .words .now) (d .args .j) (d .args .t) (c .if1 .taken))
+      let a = c .before .args in
+      held (arg (c .before .fits .t)) ∙ sym (outward-done (a .s) (a .first) (a .rest) (words (a .r .now .now) (a .at) (a .m)) (a .j) (a .t) (c .if1 .taken))
 
-  next-requires : outward-lts.Need-next-requires (calls m) (outward-at m) outward.Post
-  next-requires c κs =
-      let k = i c in
-      step-same (s c) (sym (stored c (k + k + 1))) (sym (stored c (k + k))) (sym (v-is c)) (sym (t-is c)) (now-step c)
+  mul-place : outward-lts.Need-mul-place (calls n) (outward-at n) outward.Post
+  mul-place c = record { fits = omega (arith, inside (c .before), c .before .before .pre .1 .1) }
 
-  outward-requires : outward-lts.Need-outward-requires (calls m) (outward-at m) outward.Post
+  add-place : outward-lts.Need-add-place (calls n) (outward-at n) outward.Post
+  add-place c = record { fits = omega (arith, inside (c .before), c .before .before .pre .1 .1) }
+
+  add-get-word : outward-lts.Need-add-get-word (calls n) (outward-at n) outward.Post
+  add-get-word c = record { fits = omega (arith, inside (c .before), c .before .before .pre .1 .1) }
+
+  get-word-requires : outward-lts.Need-get-word-requires (calls n) (outward-at n) outward.Post
+  get-word-requires c κs = omega (arith, inside (c .before), c .before .before .pre .1 .0)
+
+  get-word-requires-2 : outward-lts.Need-get-word-requires-2 (calls n) (outward-at n) outward.Post
+  get-word-requires-2 c κs = omega (arith, inside (c .before .before), c .before .before .before .pre .1 .0)
+
+  next-requires : outward-lts.Need-next-requires (calls n) (outward-at n) outward.Post
+  next-requires c κs = step-same (S (turn c)) (sym (a-read c)) (sym (b-read c)) (sym (v-is c)) (sym (t-is (turn c))) (now-step (turn c))
+
+  outward-requires : outward-lts.Need-outward-requires (calls n) (outward-at n) outward.Post
   outward-requires c κs =
-      let b = c .before in
-      let a = start b .args in
-      (omega (arith, start b .pre .0, depth b), ready-same (s b) (ws b) (i b) (sym (held (arg (start b .fits .first)))) (sym (held (arg (start b .fits .rest)))) (sym (u-is c)) (next-ready (s b) (a .first) (a .rest) (ws b) (i b) (a .t) (ready b)))
+      let e = step c in
+      let a = e .before .args in
+      (omega (arith, e .before .pre .0, depth e), (e .before .pre .1 .0, e .before .pre .1 .1, ready-same (S e) (ws e) (i e) (sym (held (arg (e .before .fits .first)))) (sym (held (arg (e .before .fits .rest)))) (sym (u-is c)) (next-ready (S e) (a .first) (a .rest) (ws e) (i e) (a .t) (ready e))))
 
-  returns-2 : outward-lts.Need-returns-2 (calls m) (outward-at m) outward.Post
+  returns-2 : outward-lts.Need-returns-2 (calls n) (outward-at n) outward.Post
   returns-2 c =
-      let b = c .before .before in
-      let a = start b .args in
+      let e = step (c .before) in
+      let a = e .before .args in
       held (given {w = w32} (c .outward .ok))
       ∙ c .outward .ensures
-      ∙ outward-same (s b) (ws b) (i b) (held (arg (start b .fits .first))) (held (arg (start b .fits .rest))) (u-is (c .before))
-      ∙ outward-step (s b) (a .first) (a .rest) (ws b) (a .j) (i b) (a .t) (u (c .before)) (depth b) refl
+      ∙ outward-same (S e) (ws e) (i e) (held (arg (e .before .fits .first))) (held (arg (e .before .fits .rest))) (u-is (c .before))
+      ∙ outward-step (S e) (a .first) (a .rest) (ws e) (a .j) (i e) (a .t) (u (c .before)) (depth e) refl
 
 pub +outward-spec : {M : Type 1} → statement M
-+outward-spec = close μ-outward λ m. outward-lts.spec (calls m) (outward-at m) outward.Post
-    (returns m)
++outward-spec = close μ-outward λ n. outward-lts.spec (calls n) (outward-at n) outward.Post
+    (returns n)
     (λ c. search needs)
-    (λ c. search needs)
-    (λ c. search needs)
-    (λ c. search needs)
-    (λ c. search needs)
-    (λ c. search needs)
-    (λ c. search needs)
-    (λ c. search needs)
+    (mul-place n)
+    (add-place n)
+    (add-get-word n)
+    (get-word-requires n)
+    (get-word-requires-2 n)
     (λ c κs. search needs)
-    (next-requires m)
-    (outward-requires m)
-    (returns-2 m)
+    (next-requires n)
+    (outward-requires n)
+    (returns-2 n)

@@ -1,32 +1,41 @@
 -- `fraction::admit` meets its contract.
 use borrow.Author.Needs.{needs}
 use mathlib.Core.Path.{sym, ap, _∙_}
-use Prim.Native.Nat.{ℕ}
+use mathlib.Core.List.{List}
+use Prim.Native.Nat.{ℕ, _+_}
+use lib.IntN.{ℤ}
+use Rattle.stored.specs.Words.{words}
 use Rattle.admission.proofs.AdmissionLaws.{ranged-yes, ranged-no}
 use Rattle.fraction.specs.Admission.{admitInner}
 use Rattle.fraction.proofs.AdmissionSteps.{mode-zero, mode-more}
 use Rattle.fraction.proofs.admit.Statement.{statement}
 use Rattle.fraction.proofs.admit.Tie as tie
 
+abbrev ws : tie.Start → List ℤ
+ws d = words (d .args .b .now) (d .args .at) (d .args .k + d .args .k + 1)
+
 returns : tie.Need-returns
 returns c =
-    let a = c .before .before .args in
-    c .admit-inner .ensures ∙ mode-zero (a .s) (a .most) (a .mode) (a .words .now) (a .k) (c .before .if1 .taken)
+    let d = c .before .before .before in
+    let a = d .args in
+    c .admit-inner .ensures ∙ mode-zero (a .s) (a .most) (a .mode) (ws d) (a .k) (c .before .if1 .taken)
 
 returns-2 : tie.Need-returns-2
 returns-2 c =
     let b = c .before in
-    let a = b .before .before .args in
-    sym (mode-more (a .s) (a .most) (a .mode) (a .words .now) (a .k) (b .bound-product .result) (b .before .if1 .left) (b .bound-product .ensures) ∙ ranged-yes (b .bound-product .result) _ (c .if2 .taken))
+    let d = b .before .before .before in
+    let a = d .args in
+    sym (mode-more (a .s) (a .most) (a .mode) (ws d) (a .k) (b .bound-product .result) (b .before .if1 .left) (b .bound-product .ensures) ∙ ranged-yes (b .bound-product .result) _ (c .if2 .taken))
 
 returns-3 : tie.Need-returns-3
 returns-3 c =
     let b = c .before .before .before in
-    let a = b .before .before .args in
+    let d = b .before .before .before in
+    let a = d .args in
     let square = b .bound-product .result in
     c .admit-inner2 .ensures
-    ∙ ap (λ (v : ℕ). admitInner (a .s) v square (a .words .now) (a .k)) (c .before .first-bound .ensures)
-    ∙ sym (mode-more (a .s) (a .most) (a .mode) (a .words .now) (a .k) square (b .before .if1 .left) (b .bound-product .ensures) ∙ ranged-no square _ (c .before .before .if2 .left))
+    ∙ ap (λ (v : ℕ). admitInner (a .s) v square (ws d) (a .k)) (c .before .first-bound .ensures)
+    ∙ sym (mode-more (a .s) (a .most) (a .mode) (ws d) (a .k) square (b .before .if1 .left) (b .bound-product .ensures) ∙ ranged-no square _ (c .before .before .if2 .left))
 
 pub admit-spec : {M : Type 1} → statement M
 admit-spec =

@@ -1,70 +1,91 @@
 -- `fraction::answer` meets its contract: the walk outward from b_k, with v1 and the other v's of the mode.
 use borrow.Author.Needs.{needs}
 use mathlib.Core.Path.{_≡_, sym, ap, ap₂, _∙_, subst}
-use Prim.Native.Nat.{ℕ}
+use mathlib.Core.List.{List}
+use Prim.Native.Nat.{ℕ, _+_, _*_, _<_, _≤_}
 use native.Mathlib.Omega.{arith}
 use lib.IntN.{ℤ}
+use lib.ListN.{length}
 use mir.Syntax.{w32}
 use Rattle.whole.proofs.Fit.{fit-abs}
 use Rattle.whole.proofs.Held.{back, held, arg, known, given}
 use Rattle.word.specs.Words.{Word, Scale, productOf}
+use Rattle.stored.specs.Words.{words}
 use Rattle.fraction.specs.Fraction.{bAt, firstOf, restOf}
 use Rattle.fraction.specs.Ready.{OutwardReady}
-use Rattle.fraction.proofs.WalkLaws.{outward-same, ready-same, first-rest}
+use Rattle.fraction.proofs.WalkLaws.{b-is, outward-same, ready-same, first-rest}
 use Rattle.fraction.proofs.StaysInRange.{rest-word, walk-ready}
 use Rattle.fraction.proofs.answer.Statement.{statement}
 use Rattle.fraction.proofs.answer.Tie as tie
 
--- ---- what is handed to `outward`
-module _ (c : tie.After-first-of) where
-  abbrev start : tie.Start
-  start = c .before .before .before
+module _ (d : tie.Start) where
+  abbrev S : ℕ
+  S = d .args .s
 
   abbrev x : ℤ
-  x = start .args .x
+  x = d .args .x
+
+  abbrev k : ℕ
+  k = d .args .k
+
+  abbrev ws : List ℤ
+  ws = words (d .args .b .now) (d .args .at) (k + k + 1)
 
   abbrev mode : ℕ
-  mode = start .args .mode
+  mode = d .args .mode
 
   abbrev square : ℤ
-  square = productOf (start .args .s) x x
+  square = productOf S x x
 
-  ready : OutwardReady (start .args .s) (firstOf mode x square) (restOf mode x square) (start .args .words .now) (start .args .k) (bAt (start .args .words .now) (start .args .k))
-  ready = walk-ready (start .args .s) mode (start .args .words .now) (start .args .k) x (start .pre)
+  ready : OutwardReady S (firstOf mode x square) (restOf mode x square) ws k (bAt ws k)
+  ready = walk-ready S mode ws k x (d .pre .1)
 
   x-is : back w32 x ≡ x
-  x-is = held (arg (start .fits .x))
+  x-is = held (arg (d .fits .x))
 
-  rest-is : back w32 (c .before .before .rest-of .result) ≡ restOf mode x square
-  rest-is = held {w = w32} (known (c .before .before .rest-of .ensures ∙ ap (λ (z : ℤ). restOf mode z (productOf (start .args .s) z z)) x-is) (fit-abs (omega (arith, ready .rest-word))))
+-- ---- what is handed to `outward`
+module _ (c : tie.After-get-word) where
+  abbrev start : tie.Start
+  start = c .before .before .before .before
 
-  first-is : back w32 (c .first-of .result) ≡ firstOf mode x square
-  first-is = held {w = w32} (known (c .first-of .ensures ∙ ap₂ (firstOf mode) x-is rest-is ∙ first-rest x square mode) (fit-abs (omega (arith, ready .first-word))))
+  rest-is : back w32 (c .before .before .rest-of .result) ≡ restOf (mode start) (x start) (square start)
+  rest-is = held {w = w32} (known (c .before .before .rest-of .ensures ∙ ap (λ (z : ℤ). restOf (mode start) z (productOf (S start) z z)) (x-is start)) (fit-abs (omega (arith, ready start .rest-word))))
 
-  t-is : back w32 (bAt (start .args .words .now) (start .args .k)) ≡ bAt (start .args .words .now) (start .args .k)
-  t-is = held (arg {x = bAt (start .args .words .now) (start .args .k)} (fit-abs (omega (arith, ready .t-word))))
+  first-is : back w32 (c .before .first-of .result) ≡ firstOf (mode start) (x start) (square start)
+  first-is = held {w = w32} (known (c .before .first-of .ensures ∙ ap₂ (firstOf (mode start)) (x-is start) rest-is ∙ first-rest (x start) (square start) (mode start)) (fit-abs (omega (arith, ready start .first-word))))
+
+  t-is : back w32 (c .get-word .result) ≡ bAt (ws start) (k start)
+  t-is = held {w = w32} (known (c .get-word .ensures ∙ b-is (start .args .b .now) (start .args .at) (k start + k start + 1) (k start) (omega arith)) (fit-abs (omega (arith, ready start .t-word))))
 
 rest-of-requires : tie.Need-rest-of-requires
 rest-of-requires c κs =
-    subst (λ (z : ℤ). Scale (c .args .s) × Word z × Word (restOf (c .args .mode) z (productOf (c .args .s) z z))) (sym (held (arg (c .fits .x))))
-    (c .pre .scale, c .pre .x-word, rest-word (c .args .s) (c .args .mode) (c .args .words .now) (c .args .k) (c .args .x) (c .pre))
+    let d = c .before in
+    subst (λ (z : ℤ). Scale (S d) × Word z × Word (restOf (mode d) z (productOf (S d) z z))) (sym (x-is d))
+    (d .pre .1 .scale, d .pre .1 .x-word, rest-word (S d) (mode d) (ws d) (k d) (x d) (d .pre .1))
 
 outward-requires : tie.Need-outward-requires
-outward-requires c κs = ready-same (start c .args .s) (start c .args .words .now) (start c .args .k) (sym (first-is c)) (sym (rest-is c)) (sym (t-is c)) (ready c)
+outward-requires c κs =
+    let g = c .before in
+    let d = start g in
+    let l : length (d .args .b .now) < 18446744073709551616 = search needs in
+    (d .pre .0, omega (arith, d .pre .0), ready-same (S d) (ws d) (k d) (sym (first-is g)) (sym (rest-is g)) (sym (t-is g)) (ready d))
 
 returns : tie.Need-returns
 returns c =
-    let b = c .before in
-    held (given {w = w32} (c .outward .ok)) ∙ c .outward .ensures ∙ outward-same (start b .args .s) (start b .args .words .now) (start b .args .k) (first-is b) (rest-is b) (t-is b)
+    let g = c .before .before in
+    let d = start g in
+    held (given {w = w32} (c .outward .ok)) ∙ c .outward .ensures ∙ outward-same (S d) (ws d) (k d) (first-is g) (rest-is g) (t-is g)
 
 pub answer-spec : {M : Type 1} → statement M
 answer-spec =
     tie.close
     (tie.spec
     rest-of-requires
-    (λ c. search needs)
+    (λ c κs. search needs)
     (λ c. search needs)
     (λ c. search needs)
     (λ c κs. search needs)
+    (λ c. search needs)
+    (λ c. search needs)
     outward-requires
     returns)

@@ -2,7 +2,7 @@
 use borrow.Author.Needs.{needs}
 use mathlib.Core.Path.{_≡_, sym, ap, ap₂, _∙_, subst}
 use mathlib.Core.List.{List}
-use Prim.Native.Nat.{ℕ, suc, _-_, _<_}
+use Prim.Native.Nat.{ℕ, suc, _+_, _*_, _-_, _<_}
 use native.Mathlib.Omega.{arith}
 use lib.IntN.{ℤ, pos, _+ℤ_}
 use lib.ListN.{length, getD, drop}
@@ -12,114 +12,125 @@ use mir.Facts.{toZ-ofZ}
 use Rattle.whole.proofs.Fit.{fit-abs}
 use Rattle.whole.proofs.Held.{back, Held, fits-code, held, arg, known, cast, wider, plus}
 use Rattle.word.specs.Words.{Word, productOf}
+use Rattle.stored.specs.Numbers.{word4}
+use Rattle.stored.specs.Words.{words}
+use Rattle.stored.proofs.WordsLaws.{length-words, word-at}
 use Rattle.polynomial.specs.Polynomial.{horner}
 use Rattle.polynomial.proofs.WalkLaws.{horner-drop, horner-last, running-word, coefficient-word, product-word}
 use Rattle.polynomial.proofs.answer.Statement.{statement}
 use Rattle.polynomial.proofs.answer.Tie as tie
 
 abbrev Inv-loop : tie.InvT-loop
-Inv-loop words x s i₀ running₀ i running = (i < length words) × (running ≡ ofZ w32 (horner s (drop i words) (toZ w32 x)))
+Inv-loop b at m x s i₀ running₀ i running = (i < m) × (running ≡ ofZ w32 (horner s (drop i (words b at m)) (toZ w32 x)))
 
 abbrev μ-loop : tie.MeasureT-loop
-μ-loop words x s i₀ running₀ i running = i
+μ-loop b at m x s i₀ running₀ i running = i
 
--- ---- at the loop's head
-x-is : (c : tie.Start Inv-loop μ-loop) → back w32 (c .args .x) ≡ c .args .x
-x-is c = held (arg (c .fits .x))
-
-run : (c : tie.Start Inv-loop μ-loop) (k : ℕ) → Word (horner (c .args .s) (drop k (c .args .words .now)) (c .args .x))
-run c k = running-word (c .args .s) (c .args .words .now) (c .args .x) (c .pre .3) k
-
-running-is : (c : tie.At-loop Inv-loop μ-loop) → toZ w32 (c .loop .running) ≡ horner (c .before .before .args .s) (drop (c .loop .i) (c .before .before .args .words .now)) (c .before .before .args .x)
-running-is c =
-    let d = c .before .before in
-    ap (toZ w32) (c .loop .inv .1 ∙ ap (λ (z : ℤ). ofZ w32 (horner (d .args .s) (drop (c .loop .i) (d .args .words .now)) z)) (x-is d)) ∙ toZ-ofZ (fit-abs (omega (arith, run d (c .loop .i))))
-
--- ---- in a turn: the coefficient at i − 1, and the word over the coefficients from there on
-module _ (c : tie.In-loop Inv-loop μ-loop) where
+-- ---- at the start
+module _ (d : tie.Start Inv-loop μ-loop) where
   abbrev S : ℕ
-  S = c .before .before .before .args .s
+  S = d .args .s
 
   abbrev ws : List ℤ
-  ws = c .before .before .before .args .words .now
+  ws = words (d .args .b .now) (d .args .at) (d .args .m)
 
   abbrev x : ℤ
-  x = c .before .before .before .args .x
+  x = d .args .x
+
+  count : length ws ≡ d .args .m
+  count = length-words (d .args .b .now) (d .args .at) (d .args .m)
+
+  some : 0 < d .args .m
+  some = omega (arith, d .pre .1 .2, count)
+
+  x-is : back w32 x ≡ x
+  x-is = held (arg (d .fits .x))
+
+  run : (k : ℕ) → Word (horner S (drop k ws) x)
+  run k = running-word S ws x (d .pre .1 .3) k
+
+  -- a coefficient as it is read
+  read-is : (i : ℕ) → i < d .args .m → (r : ℤ) → r ≡ word4 (d .args .b .now) (d .args .at + 4 * i) → Held w32 r (getD ws i (pos 0))
+  read-is i h r e = known (e ∙ sym (word-at (d .args .b .now) (d .args .at) (d .args .m) i h)) (fit-abs (omega (arith, coefficient-word S ws x (d .pre .1 .3) i (omega (arith, count)))))
+
+running-is : (c : tie.At-loop Inv-loop μ-loop) → toZ w32 (c .loop .running) ≡ horner (S (c .before .before .before)) (drop (c .loop .i) (ws (c .before .before .before))) (x (c .before .before .before))
+running-is c =
+    let d = c .before .before .before in
+    ap (toZ w32) (c .loop .inv .1 ∙ ap (λ (z : ℤ). ofZ w32 (horner (S d) (drop (c .loop .i) (ws d)) z)) (x-is d)) ∙ toZ-ofZ (fit-abs (omega (arith, run d (c .loop .i))))
+
+-- ---- in a turn: the coefficient at i − 1, and the word over the coefficients from there on
+module _ (c : tie.After-get-word2 Inv-loop μ-loop) where
+  abbrev start : tie.Start Inv-loop μ-loop
+  start = c .before .before .before .before .before
 
   abbrev i : ℕ
-  i = c .before .loop .i
+  i = c .before .before .loop .i
 
-  coefficient-held : Held w32 (getD ws (i - 1) (pos 0)) (getD ws (i - 1) (pos 0))
-  coefficient-held = arg (fit-abs (omega (arith, coefficient-word S ws x (c .before .before .before .pre .3) (i - 1) (omega arith))))
+  inside : i - 1 < start .args .m
+  inside = omega (arith, c .before .loop-test .taken, c .before .before .loop .inv .0)
+
+  coefficient-held : Held w32 (c .get-word2 .result) (getD (ws start) (i - 1) (pos 0))
+  coefficient-held = read-is start (i - 1) inside (c .get-word2 .result) (c .get-word2 .ensures)
 
   back-i : suc (i - 1) ≡ i
-  back-i = omega arith
+  back-i = omega (arith, c .before .loop-test .taken)
 
-  next : horner S (drop (i - 1) ws) x ≡ getD ws (i - 1) (pos 0) +ℤ productOf S (horner S (drop i ws) x) x
-  next = horner-drop S ws (i - 1) x (omega arith) ∙ ap (λ (k : ℕ). getD ws (i - 1) (pos 0) +ℤ productOf S (horner S (drop k ws) x) x) back-i
+  next : horner (S start) (drop (i - 1) (ws start)) (x start) ≡ getD (ws start) (i - 1) (pos 0) +ℤ productOf (S start) (horner (S start) (drop i (ws start)) (x start)) (x start)
+  next = horner-drop (S start) (ws start) (i - 1) (x start) (omega (arith, inside, count start)) ∙ ap (λ (k : ℕ). getD (ws start) (i - 1) (pos 0) +ℤ productOf (S start) (horner (S start) (drop k (ws start)) (x start)) (x start)) back-i
 
-  product-fits : Word (productOf S (horner S (drop i ws) x) x)
-  product-fits = subst (λ (k : ℕ). Word (productOf S (horner S (drop k ws) x) x)) back-i (product-word S ws x (c .before .before .before .pre .3) (i - 1) (omega arith))
+  product-fits : Word (productOf (S start) (horner (S start) (drop i (ws start)) (x start)) (x start))
+  product-fits = subst (λ (k : ℕ). Word (productOf (S start) (horner (S start) (drop k (ws start)) (x start)) (x start))) back-i (product-word (S start) (ws start) (x start) (start .pre .1 .3) (i - 1) (omega (arith, inside, count start)))
 
-  held-sum : (r : ℤ) → r ≡ productOf S (toZ w32 (c .before .loop .running)) (back w32 x) → Held w64 (back w64 (back w32 (getD ws (i - 1) (pos 0))) +ℤ back w64 r) (horner S (drop (i - 1) ws) x)
+  held-sum : (r : ℤ) → r ≡ productOf (S start) (toZ w32 (c .before .before .loop .running)) (back w32 (x start)) → Held w64 (back w64 (back w32 (c .get-word2 .result)) +ℤ back w64 r) (horner (S start) (drop (i - 1) (ws start)) (x start))
   held-sum r e =
-      let f : SFits w64 (horner S (drop (i - 1) ws) x) = fit-abs (omega (arith, run (c .before .before .before) (i - 1))) in
-      let p = known {w = w64} (e ∙ ap₂ (productOf S) (running-is (c .before)) (x-is (c .before .before .before))) (fit-abs (omega (arith, product-fits))) in
+      let f : SFits w64 (horner (S start) (drop (i - 1) (ws start)) (x start)) = fit-abs (omega (arith, run start (i - 1))) in
+      let p = known {w = w64} (e ∙ ap₂ (productOf (S start)) (running-is (c .before .before)) (x-is start)) (fit-abs (omega (arith, product-fits))) in
       known (plus (wider tt coefficient-held) p (subst (SFits w64) next f) .eq ∙ sym next) f
 
 -- ---- the needs
 sub-i : tie.Need-sub-i Inv-loop μ-loop
-sub-i c = search needs
+sub-i c = omega (arith, some (c .before))
 
-mul-running : tie.Need-mul-running Inv-loop μ-loop
-mul-running c = search needs
+mul-get-word : tie.Need-mul-get-word Inv-loop μ-loop
+mul-get-word c = search needs
 
-shared-slice-copy-out-running : tie.Need-shared-slice-copy-out-running Inv-loop μ-loop
-shared-slice-copy-out-running c = search needs
+add-get-word : tie.Need-add-get-word Inv-loop μ-loop
+add-get-word c = search needs
+
+get-word-requires : tie.Need-get-word-requires Inv-loop μ-loop
+get-word-requires c κs = omega (arith, some (c .before), c .before .pre .0)
 
 loop-holds : tie.Need-loop-holds Inv-loop μ-loop
 loop-holds c =
-    let d = c .before in
-    let h : 0 < length (d .args .words .now) = d .pre .2 in
-    (omega arith, ap (ofZ w32) (sym (horner-last (d .args .s) (d .args .words .now) (back w32 (d .args .x)) h)))
-
-sub-i-2 : tie.Need-sub-i-2 Inv-loop μ-loop
-sub-i-2 c = search needs
-
-mul-running-2 : tie.Need-mul-running-2 Inv-loop μ-loop
-mul-running-2 c = search needs
-
-shared-slice-copy-out-running-2 : tie.Need-shared-slice-copy-out-running-2 Inv-loop μ-loop
-shared-slice-copy-out-running-2 c = search needs
+    let d = c .before .before in
+    let h : d .args .m - 1 < d .args .m = omega (arith, some d) in
+    (h, ap (ofZ w32) (read-is d (d .args .m - 1) h (c .get-word .result) (c .get-word .ensures) .eq ∙ ap (λ (k : ℕ). getD (ws d) (k - 1) (pos 0)) (sym (count d)) ∙ sym (horner-last (S d) (ws d) (back w32 (x d)) (d .pre .1 .2)) ∙ ap (λ (k : ℕ). horner (S d) (drop (k - 1) (ws d)) (back w32 (x d))) (count d)))
 
 cast-running : tie.Need-cast-running Inv-loop μ-loop
-cast-running c = fits-code (wider {w′ = w64} tt (coefficient-held (c .before)))
+cast-running c = fits-code (wider {w′ = w64} tt (coefficient-held c))
 
 product-requires : tie.Need-product-requires Inv-loop μ-loop
 product-requires c κs =
-    let d = c .before .before .before .before in
-    (d .pre .0, subst Word (sym (running-is (c .before .before))) (run d (c .before .before .loop .i)), subst Word (sym (x-is d)) (d .pre .1))
+    let d = start c in
+    (d .pre .1 .0, subst Word (sym (running-is (c .before .before))) (run d (i c)), subst Word (sym (x-is d)) (d .pre .1 .1))
 
 add-running : tie.Need-add-running Inv-loop μ-loop
-add-running c = fits-code (held-sum (c .before .before) (c .product .result) (c .product .ensures))
+add-running c = fits-code (held-sum (c .before) (c .product .result) (c .product .ensures))
 
 cast-running-2 : tie.Need-cast-running-2 Inv-loop μ-loop
-cast-running-2 c = fits-code (cast {w′ = w32} (held-sum (c .before .before) (c .product .result) (c .product .ensures)) (fit-abs (omega (arith, run (c .before .before .before .before .before) (c .before .before .before .loop .i - 1)))))
-
-loop-less : tie.Need-loop-less Inv-loop μ-loop
-loop-less c = search needs
+cast-running-2 c = fits-code (cast {w′ = w32} (held-sum (c .before) (c .product .result) (c .product .ensures)) (fit-abs (omega (arith, run (start (c .before)) (i (c .before) - 1)))))
 
 loop-again : tie.Need-loop-again Inv-loop μ-loop
 loop-again c =
-    let t = c .before .before in
-    let d = t .before .before .before in
-    (omega arith, ap (ofZ w32) (held (held-sum t (c .product .result) (c .product .ensures)) ∙ ap (λ (z : ℤ). horner (d .args .s) (drop (t .before .loop .i - 1) (d .args .words .now)) z) (sym (x-is d))))
+    let t = c .before in
+    let d = start t in
+    (inside t, ap (ofZ w32) (held (held-sum t (c .product .result) (c .product .ensures)) ∙ ap (λ (z : ℤ). horner (S d) (drop (i t - 1) (ws d)) z) (sym (x-is d))))
 
 returns : tie.Need-returns Inv-loop μ-loop
 returns c =
-    let d = c .before .before .before in
-    let e : c .before .loop .i ≡ 0 = omega arith in
-    running-is (c .before) ∙ ap (λ (k : ℕ). horner (d .args .s) (drop k (d .args .words .now)) (d .args .x)) e
+    let d = c .before .before .before .before in
+    let e : c .before .loop .i ≡ 0 = omega (arith, c .loop-test .left) in
+    running-is (c .before) ∙ ap (λ (k : ℕ). horner (S d) (drop k (ws d)) (x d)) e
 
 pub answer-spec : {M : Type 1} → statement M
 answer-spec =
@@ -128,16 +139,18 @@ answer-spec =
     Inv-loop
     μ-loop
     sub-i
-    mul-running
-    shared-slice-copy-out-running
+    mul-get-word
+    add-get-word
+    get-word-requires
     loop-holds
-    sub-i-2
-    mul-running-2
-    shared-slice-copy-out-running-2
+    (λ c. search needs)
+    (λ c. search needs)
+    (λ c. search needs)
+    (λ c κs. search needs)
     cast-running
     product-requires
     add-running
     cast-running-2
-    loop-less
+    (λ c. search needs)
     loop-again
     returns)

@@ -1,14 +1,16 @@
--- `polynomial::bound` meets its contract. The invariant: b is the bound of the coefficients from i on.
+-- `polynomial::bound` meets its contract. The invariant: `low` is the bound of the coefficients from i on.
 use borrow.Author.Needs.{needs}
 use mathlib.Core.Path.{_≡_, sym, ap, ap₂, _∙_}
-use Prim.Native.Nat.{ℕ, _+_, _*_, _-_, _≤_}
+use mathlib.Core.List.{List}
+use Prim.Native.Nat.{ℕ, _+_, _*_, _-_, _<_, _≤_}
 use native.Mathlib.Nat.{mul-le-mul}
 use native.Mathlib.Omega.{arith}
-use lib.IntN.{pos}
+use lib.IntN.{ℤ, pos, natAbs}
 use lib.ListN.{length, getD, drop}
 use mir.Syntax.{w32}
-use Rattle.whole.proofs.Fit.{fit-abs}
-use Rattle.whole.proofs.Held.{held-nat, arg}
+use Rattle.whole.proofs.Held.{held-nat, given}
+use Rattle.stored.specs.Words.{words}
+use Rattle.stored.proofs.WordsLaws.{length-words, word-at}
 use Rattle.polynomial.specs.Polynomial.{boundOf, bounded}
 use Rattle.polynomial.proofs.BoundLaws.{bound-none, bound-turn, bounded-yes, bounded-no, beyond-first, bound-product-most}
 use Rattle.polynomial.specs.declared.Bounding.the-variants.{Within}
@@ -16,72 +18,68 @@ use Rattle.polynomial.proofs.bound.Statement.{statement}
 use Rattle.polynomial.proofs.bound.Tie as tie
 
 abbrev Inv-loop : tie.InvT-loop
-Inv-loop words most s i₀ b₀ i b = (i ≤ length words) × (b ≤ 2147483647) × (boundOf s most (drop i words) ≡ Within b)
+Inv-loop b at m most s i₀ low₀ i low = (i ≤ m) × (low ≤ 2147483647) × (boundOf s most (drop i (words b at m)) ≡ Within low)
 
 abbrev μ-loop : tie.MeasureT-loop
-μ-loop words most s i₀ b₀ i b = i
-
-module _ (c : tie.After-bound-product Inv-loop μ-loop) where
-  turned : boundOf (c .before .before .before .before .before .args .s) (c .before .before .before .before .before .args .most) (drop (c .before .before .before .before .loop .i - 1) (c .before .before .before .before .before .args .words .now)) ≡ bounded (c .before .magnitude .result + c .bound-product .result)
-  turned =
-      let d = c .before .before .before .before .before in
-      let l = c .before .before .before .before .loop in
-      let k = l .i - 1 in
-      bound-turn (d .args .s) (d .args .most) (d .args .words .now) (l .i) k (l .b) _ (omega (arith, c .before .before .before .loop-test .taken)) (omega (arith, c .before .before .before .loop-test .taken, l .inv .0)) (l .inv .2)
-      (ap₂ _+_ (c .before .magnitude .ensures ∙ held-nat (arg {w = w32} {x = getD (d .args .words .now) k (pos 0)} (fit-abs (omega (arith, d .pre .1 k))))) (c .bound-product .ensures))
+μ-loop b at m most s i₀ low₀ i low = i
 
 loop-holds : tie.Need-loop-holds Inv-loop μ-loop
-loop-holds c = (omega arith, omega arith, bound-none (c .args .s) (c .args .most) (c .args .words .now))
+loop-holds c =
+    let a = c .before .args in
+    let ws = words (a .b .now) (a .at) (a .m) in
+    (omega arith, omega arith, ap (λ (k : ℕ). boundOf (a .s) (a .most) (drop k ws)) (sym (length-words (a .b .now) (a .at) (a .m))) ∙ bound-none (a .s) (a .most) ws)
 
-sub-i : tie.Need-sub-i Inv-loop μ-loop
-sub-i c = search needs
+-- ---- a turn: the bound of the coefficients from i - 1 on
+module _ (c : tie.After-bound-product Inv-loop μ-loop) where
+  abbrev start : tie.Start Inv-loop μ-loop
+  start = c .before .before .before .before .before .before
 
-mul-magnitude : tie.Need-mul-magnitude Inv-loop μ-loop
-mul-magnitude c = search needs
+  abbrev ws : List ℤ
+  ws = words (start .args .b .now) (start .args .at) (start .args .m)
 
-shared-slice-copy-out-magnitude : tie.Need-shared-slice-copy-out-magnitude Inv-loop μ-loop
-shared-slice-copy-out-magnitude c = search needs
+  abbrev i : ℕ
+  i = c .before .before .before .before .loop .i
 
-size-requires : tie.Need-magnitude-requires Inv-loop μ-loop
-size-requires c κs = search needs
+  inside : i - 1 < start .args .m
+  inside = omega (arith, c .before .before .before .loop-test .taken, c .before .before .before .before .loop .inv .0)
 
-cast-n : tie.Need-cast-n Inv-loop μ-loop
-cast-n c = search needs
+  size-is : c .before .magnitude .result ≡ natAbs (getD ws (i - 1) (pos 0))
+  size-is =
+      c .before .magnitude .ensures
+      ∙ held-nat (given {w = w32} {x = c .before .before .get-word .result} (c .before .before .get-word .ok))
+      ∙ ap natAbs (c .before .before .get-word .ensures ∙ sym (word-at (start .args .b .now) (start .args .at) (start .args .m) (i - 1) inside))
 
-bound-product-requires : tie.Need-bound-product-requires Inv-loop μ-loop
-bound-product-requires c κs = search needs
+  turned : boundOf (start .args .s) (start .args .most) (drop (i - 1) ws) ≡ bounded (c .before .magnitude .result + c .bound-product .result)
+  turned =
+      bound-turn (start .args .s) (start .args .most) ws i (i - 1) (c .before .before .before .before .loop .low) _
+      (omega (arith, c .before .before .before .loop-test .taken))
+      (omega (arith, inside, length-words (start .args .b .now) (start .args .at) (start .args .m)))
+      (c .before .before .before .before .loop .inv .2)
+      (ap₂ _+_ size-is (c .bound-product .ensures))
 
 add-n : tie.Need-add-n Inv-loop μ-loop
 add-n c =
-    let d = c .before .before .before .before .before in
-    let b = c .before .before .before .before .loop .b in
-    let k : d .args .most ≤ 4294967295 = omega (arith, d .fits .most .fits) in
-    let m : b * d .args .most ≤ 2147483647 * 4294967295 = mul-le-mul (c .before .before .before .before .loop .inv .1) k in
-    record { fits = omega (arith, c .before .magnitude .ok, c .bound-product .ensures, bound-product-most (d .args .s) b (d .args .most)) }
+    let a = start c .args in
+    let low = c .before .before .before .before .loop .low in
+    let k : a .most ≤ 4294967295 = omega (arith, start c .fits .most .fits) in
+    let m : low * a .most ≤ 2147483647 * 4294967295 = mul-le-mul (c .before .before .before .before .loop .inv .1) k in
+    record { fits = omega (arith, c .before .magnitude .ok, c .bound-product .ensures, bound-product-most (a .s) low (a .most)) }
 
 returns : tie.Need-returns Inv-loop μ-loop
 returns c =
-    let d = c .before .before .before .before .before .before in
-    let l = c .before .before .before .before .before .loop in
-    sym (beyond-first (d .args .s) (d .args .most) (d .args .words .now) (l .i - 1) (omega (arith, c .before .before .before .before .loop-test .taken, l .inv .0)) (turned (c .before) ∙ bounded-yes _ (c .if1 .taken)))
-
-cast-b : tie.Need-cast-b Inv-loop μ-loop
-cast-b c = search needs
-
-loop-less : tie.Need-loop-less Inv-loop μ-loop
-loop-less c = search needs
+    let d = c .before in
+    let a = start d .args in
+    sym (beyond-first (a .s) (a .most) (ws d) (i d - 1) (omega (arith, inside d, length-words (a .b .now) (a .at) (a .m))) (turned d ∙ bounded-yes _ (c .if1 .taken)))
 
 loop-again : tie.Need-loop-again Inv-loop μ-loop
-loop-again c =
-    let l = c .before .before .before .before .before .loop in
-    (omega (arith, l .inv .0), c .if1 .left, turned (c .before) ∙ bounded-no _ (c .if1 .left))
+loop-again c = (omega (arith, inside (c .before)), c .if1 .left, turned (c .before) ∙ bounded-no _ (c .if1 .left))
 
 returns-2 : tie.Need-returns-2 Inv-loop μ-loop
 returns-2 c =
-    let d = c .before .before in
+    let a = c .before .before .before .args in
     let l = c .before .loop in
     let z : l .i ≡ 0 = omega (arith, c .loop-test .left) in
-    sym (ap (λ (j : ℕ). boundOf (d .args .s) (d .args .most) (drop j (d .args .words .now))) (sym z) ∙ l .inv .2)
+    sym (ap (λ (j : ℕ). boundOf (a .s) (a .most) (drop j (words (a .b .now) (a .at) (a .m)))) (sym z) ∙ l .inv .2)
 
 pub bound-spec : {M : Type 1} → statement M
 bound-spec =
@@ -90,15 +88,16 @@ bound-spec =
     Inv-loop
     μ-loop
     loop-holds
-    sub-i
-    mul-magnitude
-    shared-slice-copy-out-magnitude
-    size-requires
-    cast-n
-    bound-product-requires
+    (λ c. search needs)
+    (λ c. search needs)
+    (λ c. search needs)
+    (λ c κs. search needs)
+    (λ c κs. search needs)
+    (λ c. search needs)
+    (λ c κs. search needs)
     add-n
     returns
-    cast-b
-    loop-less
+    (λ c. search needs)
+    (λ c. search needs)
     loop-again
     returns-2)

@@ -1,0 +1,4 @@
+-- Laws, lowest first.
+pub mod Back
+pub mod NumberLaws
+pub mod WordsLaws

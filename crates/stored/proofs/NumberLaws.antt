@@ -1,0 +1,76 @@
+-- Numbers in a part of a list, in a list that goes on, and where they were stored.
+use mathlib.Core.Path.{_≡_, _∙_, ap}
+use mathlib.Core.List.{List, _∷_, _++_}
+use Prim.Native.Nat.{ℕ, _+_, _*_, _/_, _%_, _≤_, _<_}
+use native.Mathlib.Nat.{add-assoc, add-zero, div-div-eq-div-mul, mod-eq-of-lt, div-add-mod'}
+use native.Mathlib.Omega.{arith}
+use lib.ListN.{length, getD, take, drop, List·getD-append}
+use lib.Seq.{getD-take, getD-drop, getD-append-seam, getD-append-add}
+use lib.IntN.{ℤ}
+use mir.Syntax.{w32}
+use mir.Val.{Fits, SFits, toZ, ofZ}
+use mir.ValLaws.{ofZ-fits}
+use mir.Facts.{toZ-ofZ}
+use Rattle.stored.specs.Numbers.{number2, number4, word4, bytes2, bytes4, pattern}
+
+-- a byte of a part
+byte-in : (s : List ℕ) (at n k : ℕ) → k < n → getD (take n (drop at s)) k 0 ≡ getD s (at + k) 0
+byte-in s at n k h = getD-take n (drop at s) k 0 h ∙ getD-drop at s k 0
+
+pub number4-in : (s : List ℕ) (at n k : ℕ) → k + 4 ≤ n → number4 (take n (drop at s)) k ≡ number4 s (at + k)
+unfolding number4
+number4-in s at n k h =
+    rw (
+      byte-in s at n k (omega arith),
+      byte-in s at n (k + 1) (omega arith),
+      byte-in s at n (k + 2) (omega arith),
+      byte-in s at n (k + 3) (omega arith),
+      add-assoc at k 1,
+      add-assoc at k 2,
+      add-assoc at k 3,
+    )
+
+pub number4-drop : (s : List ℕ) (at : ℕ) → number4 (drop at s) 0 ≡ number4 s at
+unfolding number4
+number4-drop s at = rw (getD-drop at s 0 0, getD-drop at s 1 0, getD-drop at s 2 0, getD-drop at s 3 0, add-zero at)
+
+pub number4-more : (s t : List ℕ) (k : ℕ) → k + 4 ≤ length s → number4 (s ++ t) k ≡ number4 s k
+unfolding number4
+number4-more s t k h =
+    rw (
+      List·getD-append s t 0 k (omega arith),
+      List·getD-append s t 0 (k + 1) (omega arith),
+      List·getD-append s t 0 (k + 2) (omega arith),
+      List·getD-append s t 0 (k + 3) (omega arith),
+    )
+
+-- ---- a number that was stored is read again
+
+pub number2-at : (a t : List ℕ) (n k : ℕ) → n < 65536 → k ≡ length a → number2 (a ++ (bytes2 n ++ t)) k ≡ n
+unfolding number2 bytes2
+number2-at a t n k h e =
+    let b = bytes2 n ++ t in
+    rw (e, getD-append-seam a (n % 256) (n / 256 % 256 ∷ t) 0, getD-append-add a b 1 0) (omega arith)
+
+-- four digits, of plain numbers: `omega` does not relate n / 65536 to n / 256
+sum4 : (n a b c w x y : ℕ) → a * 256 + w ≡ n → b * 256 + x ≡ a → c * 256 + y ≡ b → w + 256 * x + 65536 * y + 16777216 * c ≡ n
+sum4 n a b c w x y e f g = omega arith
+
+digits4 : (n : ℕ) → n < 4294967296 → n % 256 + 256 * (n / 256 % 256) + 65536 * (n / 65536 % 256) + 16777216 * (n / 16777216 % 256) ≡ n
+digits4 n h =
+    let m : n / 16777216 % 256 ≡ n / 16777216 = mod-eq-of-lt (omega arith) in
+    rw m
+    (sum4 n (n / 256) (n / 65536) (n / 16777216) (n % 256) (n / 256 % 256) (n / 65536 % 256) (div-add-mod' n 256)
+    (rw (div-div-eq-div-mul n 256 256) at (div-add-mod' (n / 256) 256))
+    (rw (div-div-eq-div-mul n 65536 256) at (div-add-mod' (n / 65536) 256)))
+
+pub number4-at : (a t : List ℕ) (n k : ℕ) → n < 4294967296 → k ≡ length a → number4 (a ++ (bytes4 n ++ t)) k ≡ n
+unfolding number4 bytes4
+number4-at a t n k h e =
+    let b = bytes4 n ++ t in
+    rw (e, getD-append-seam a (n % 256) (n / 256 % 256 ∷ n / 65536 % 256 ∷ n / 16777216 % 256 ∷ t) 0, getD-append-add a b 1 0, getD-append-add a b 2 0, getD-append-add a b 3 0) (digits4 n h)
+
+pub word4-at : (a t : List ℕ) (z : ℤ) (k : ℕ) → SFits w32 z → k ≡ length a → word4 (a ++ (bytes4 (pattern z) ++ t)) k ≡ z
+word4-at a t z k f e =
+    let h : Fits w32 (ofZ w32 z) = ofZ-fits w32 z f in
+    ap (toZ w32) (number4-at a t (pattern z) k (h .fits) e) ∙ toZ-ofZ f

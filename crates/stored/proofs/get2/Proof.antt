@@ -1,0 +1,22 @@
+use borrow.Author.Needs.{needs}
+use Rattle.stored.specs.Numbers.{number2}
+use Rattle.stored.proofs.get2.Statement.{statement}
+use Rattle.stored.proofs.get2.Tie as tie
+
+returns : tie.Need-returns
+unfolding number2
+returns c = search needs
+
+pub get2-spec : {M : Type 1} → statement M
+get2-spec =
+    tie.close
+    (tie.spec
+    (λ c. search needs)
+    (λ c κs. search needs)
+    (λ c. search needs)
+    (λ c. search needs)
+    (λ c κs. search needs)
+    (λ c. search needs)
+    (λ c. search needs)
+    (λ c. search needs)
+    returns)

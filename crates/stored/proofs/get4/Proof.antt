@@ -1,0 +1,31 @@
+use borrow.Author.Needs.{needs}
+use Rattle.stored.specs.Numbers.{number4}
+use Rattle.stored.proofs.get4.Statement.{statement}
+use Rattle.stored.proofs.get4.Tie as tie
+
+returns : tie.Need-returns
+unfolding number4
+returns c = search needs
+
+pub get4-spec : {M : Type 1} → statement M
+get4-spec =
+    tie.close
+    (tie.spec
+    (λ c. search needs)
+    (λ c κs. search needs)
+    (λ c. search needs)
+    (λ c. search needs)
+    (λ c κs. search needs)
+    (λ c. search needs)
+    (λ c. search needs)
+    (λ c. search needs)
+    (λ c. search needs)
+    (λ c κs. search needs)
+    (λ c. search needs)
+    (λ c. search needs)
+    (λ c. search needs)
+    (λ c. search needs)
+    (λ c κs. search needs)
+    (λ c. search needs)
+    (λ c. search needs)
+    returns)

@@ -1,0 +1,16 @@
+use borrow.Author.Needs.{needs}
+use mathlib.Core.Path.{_≡_, ap}
+use Prim.Native.Nat.{_-_}
+use native.Mathlib.Omega.{arith}
+use mir.Syntax.{w32}
+use mir.Val.{toZ}
+use Rattle.stored.proofs.signed.Statement.{statement}
+use Rattle.stored.proofs.signed.Tie as tie
+
+returns-2 : tie.Need-returns-2
+returns-2 c =
+    let e : 4294967295 - (4294967295 - c .before .args .n) ≡ c .before .args .n = omega arith in
+    ap (toZ w32) e
+
+pub signed-spec : {M : Type 1} → statement M
+signed-spec = tie.close (tie.spec (λ c. search needs) (λ c. search needs) (λ c. search needs) returns-2)
