@@ -32,6 +32,9 @@ ranged-out n a e = let r = passed (ltb 2147483647 n) RangeLeft a (omega arith) e
 pub apart-out : (l : ℕ) (a : Admission) → apart l a ≡ Admitted → (1 ≤ l) × (a ≡ Admitted)
 apart-out l a e = let r = passed (ltb l 1) DivisorZero a (omega arith) e in (ltb-false l 1 (r .0), r .1)
 
--- 7 is no admission
+-- neither 7 nor 8 is an admission
 pub left-not : RangeLeft ≡ Admitted → ⊥
 left-not e = absurd (omega (arith, ap numberOf e))
+
+pub zero-not : DivisorZero ≡ Admitted → ⊥
+zero-not e = absurd (omega (arith, ap numberOf e))

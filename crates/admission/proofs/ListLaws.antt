@@ -13,6 +13,11 @@ pub all-append : (p : ℤ → Type 0) (a b : List ℤ) → All p a → All p b �
 all-append p [] b f g = g
 all-append p (z ∷ a) b f g = (f .0, all-append p a b (f .1) g)
 
+pub words-append : (a b : List ℤ) → Words a → Words b → Words (a ++ b)
+words-append [] b f g i = g i
+words-append (z ∷ a) b f g zero = f 0
+words-append (z ∷ a) b f g (suc i) = words-append a b (λ j. f (suc j)) g i
+
 -- ---- a part of a list of words is one
 pub words-take : (m : ℕ) (ws : List ℤ) → Words ws → Words (take m ws)
 words-take zero ws f i = omega arith

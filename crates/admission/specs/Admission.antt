@@ -1,9 +1,12 @@
 -- The two refusals of admission. A chain of `ranged` and `apart` gives the first that it meets.
 use mathlib.Core.Path.{_≡_, refl}
 use mathlib.Core.Bool.{cond}
+use mathlib.Core.List.{List}
 use Prim.Native.Nat.{ℕ}
 use lib.Dec.{ltb}
+use lib.IntN.{ℤ}
 use Rattle.word.specs.Words.{largest}
+use Rattle.admission.specs.Lists.{Words}
 use Rattle.admission.specs.declared.Admission.{Admission}
 use Rattle.admission.specs.declared.Admission.the-variants.{Admitted, RangeLeft, DivisorZero}
 
@@ -20,6 +23,12 @@ ranged n next = cond (ltb largest n) RangeLeft next
 -- refusal 8 where l, the least size of a divisor, is below 1, else what follows
 abbrev pub apart : ℕ → Admission → Admission
 apart l next = cond (ltb l 1) DivisorZero next
+
+-- what a walk over stored numbers has found, some of which may be no words: it admits words alone, and of words it says what
+-- admission says
+pub record Judged (ws : List ℤ) (admission found : Admission) : Type 0 where
+  pub words : found ≡ Admitted → Words ws
+  pub same : Words ws → found ≡ admission
 
 -- ---- worked examples: M is in range, one more is not; a divisor of one step is apart from 0
 at-the-limit : numberOf (ranged 2147483647 Admitted) ≡ 0

@@ -1,3 +1,3 @@
 -- The two refusals of admission, and what is said of lists of whole numbers.
-pub mod Admission
 pub mod Lists
+pub mod Admission

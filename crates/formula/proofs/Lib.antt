@@ -3,5 +3,6 @@ pub mod IntervalLaws
 pub mod SoundLaws
 pub mod StaysInRange
 pub mod ReadyLaws
+pub mod JudgedLaws
 pub mod Distance
 pub mod CheckedByHand

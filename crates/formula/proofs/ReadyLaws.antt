@@ -44,7 +44,7 @@ module _ (s : ℕ) (h : Shape) (ws : List ℤ) (x : ℤ) (a : Answerable s h ws 
       record {
         scale = a .scale;
         words = a .sound .words;
-        room = omega (arith, counts-at h (a .lo) (a .hi) ws (a .sound) Fraction e);
+        room = omega (arith, room-at h (a .lo) (a .hi) ws (a .sound) Fraction e);
         x-word = x-word s h ws x a;
         most = mostOf (a .lo) (a .hi);
         within = x-most s h ws x a;

@@ -9,6 +9,7 @@ use lib.Signed.{_≤ℤ_}
 use lib.ListN.{length, take, drop}
 use Rattle.word.specs.Words.{Word, Scale}
 use Rattle.word.specs.Root.{rootWord}
+use Rattle.stored.specs.Words.{words, Stretch}
 use Rattle.admission.specs.Lists.{Words}
 use Rattle.admission.specs.declared.Admission.{Admission}
 use Rattle.admission.specs.declared.Admission.the-variants.{Admitted, RangeLeft}
@@ -83,6 +84,13 @@ wordCount Rational p q = p + q
 wordCount Fraction p q = p + p + 1
 wordCount Root p q = 0
 wordCount NoFormula p q = 0
+
+-- the words of a formula that stand in bytes from a place on, and that the bytes reach so far
+abbrev pub storedWords : Shape → List ℕ → ℕ → List ℤ
+storedWords h b at = words b at (wordCount (h .kind) (h .p) (h .q))
+
+abbrev pub Stored : Shape → List ℕ → ℕ → Type 0
+Stored h b at = Stretch b at (wordCount (h .kind) (h .p) (h .q))
 
 -- a root's interval is not below 0
 abbrev pub RootInterval : Kind → ℤ → Type 0

@@ -1,22 +1,23 @@
 -- Admission of a fraction, step by step, as the code meets it.
-use mathlib.Core.Path.{_≡_, refl, sym, ap, ap₂, _∙_}
+use mathlib.Core.Path.{_≡_, refl, sym, ap, ap₂, _∙_, subst}
 use mathlib.Core.Bool.{Bool, true, false, cond}
 use mathlib.Core.List.{List}
 use Prim.Native.Nat.{ℕ, zero, suc, _+_, _*_, _-_, _<_, _≤_}
 use native.Mathlib.Nat.{mul-le-mul, mul-le-mul-left}
 use native.Mathlib.Omega.{arith}
-use lib.Dec.{ltb}
-use lib.IntN.{ℤ, natAbs}
+use lib.Dec.{ltb, eqb}
+use lib.IntN.{ℤ, pos, natAbs}
+use lib.ListN.{length, getD, List·getD-eq-default}
 use lib.Pow.{pow-mono}
-use borrow.Author.Tests.{lt-ltb, le-ltb}
-use Rattle.word.specs.Words.{Scale, unit, boundProduct, boundQuotient}
+use borrow.Author.Tests.{lt-ltb, le-ltb, ltb-false, eqb-true, eqb-false}
+use Rattle.word.specs.Words.{Word, Scale, unit, boundProduct, boundQuotient}
 use Rattle.word.proofs.RoundedLaws.{up-least}
 use Rattle.admission.specs.Admission.{ranged}
 use Rattle.admission.specs.declared.Admission.{Admission}
 use Rattle.admission.specs.declared.Admission.the-variants.{Admitted, RangeLeft, DivisorZero}
 use Rattle.admission.proofs.AdmissionLaws.{apart-yes, apart-no}
 use Rattle.fraction.specs.Fraction.{bAt, aAfter, at, firstOf}
-use Rattle.fraction.specs.Admission.{gBound, qBound, admitFrom, admitInner, fractionAdmission, termBound}
+use Rattle.fraction.specs.Admission.{gBound, qBound, admitFrom, admitInner, fractionAdmission, termBound, judgedTerm}
 use Rattle.fraction.specs.declared.TermBound.{TermBound}
 use Rattle.fraction.specs.declared.TermBound.the-variants.{Least, Beyond}
 
@@ -29,6 +30,13 @@ quotient-most s a d h f g =
     let z : a * u * 1 ≤ a * u * d = mul-le-mul-left (a * u) g in
     let c = up-least (a * u) d (a * u) g (omega arith) in
     omega arith
+
+beyond-not : {l : ℕ} → Beyond ≡ Least l → ⊥
+beyond-not e = let z : _≡_ {A = ℕ} 0 1 = ap tag e in omega arith
+  where
+    tag : TermBound → ℕ
+    tag Beyond = 0
+    tag (Least l) = 1
 
 -- ---- one term: g, q and c are what the code has for G, Q and |b|
 module _ (s : ℕ) (a b : ℤ) (v L g : ℕ) (eg : g ≡ gBound s a v) where
@@ -54,6 +62,25 @@ module _ (s : ℕ) (a b : ℤ) (v L g : ℕ) (eg : g ≡ gBound s a v) where
 
     pub least-is : c + q ≤ 2147483647 → (l : ℕ) → l ≡ c - q → Least l ≡ termBound s a b v L
     least-is k l e = ap Least e ∙ sym (after ∙ ap (λ (t : Bool). cond t Beyond (Least (c - q))) (le-ltb 2147483647 (c + q) k))
+
+-- ---- of stored numbers
+module _ (s : ℕ) (a b : ℤ) (v L : ℕ) where
+  pub judged-no : 2147483647 < natAbs a → Beyond ≡ judgedTerm s a b v L
+  judged-no h = sym (ap (λ (t : Bool). cond t Beyond (termBound s a b v L)) (lt-ltb 2147483647 (natAbs a) h))
+
+  pub judged-is : Word a → judgedTerm s a b v L ≡ termBound s a b v L
+  judged-is h = ap (λ (t : Bool). cond t Beyond (termBound s a b v L)) (le-ltb 2147483647 (natAbs a) h)
+
+  -- a term that leaves something stands between words
+  pub judged-least : (l : ℕ) → judgedTerm s a b v L ≡ Least l → Word a × Word b
+  judged-least l e = at (ltb 2147483647 (natAbs a)) refl (ltb 2147483647 (gBound s a v)) (ltb 2147483647 (natAbs b + qBound s a v L)) refl e
+    where
+      at : (t : Bool) → ltb 2147483647 (natAbs a) ≡ t → (u w : Bool) → ltb 2147483647 (natAbs b + qBound s a v L) ≡ w
+          → cond t Beyond (cond u Beyond (cond w Beyond (Least (natAbs b - qBound s a v L)))) ≡ Least l → Word a × Word b
+      at true h u w k e = absurd (beyond-not e)
+      at false h true w k e = absurd (beyond-not e)
+      at false h false true k e = absurd (beyond-not e)
+      at false h false false k e = (ltb-false 2147483647 (natAbs a) h, omega (arith, ltb-false 2147483647 (natAbs b + qBound s a v L) k))
 
 -- ---- the walk: what a term's bound says of it, at j = i + 1
 abbrev pub afterTerm : ℕ → ℕ → ℕ → List ℤ → ℕ → TermBound → Admission
@@ -85,6 +112,27 @@ module _ (s first rest : ℕ) (ws : List ℤ) (j L : ℕ) where
         ∙ apart-no L _ (omega arith)
         ∙ joined (ltb 2147483647 (gBound s a v)) (ltb 2147483647 (b + qBound s a v L)) (admitFrom s first rest ws i (b - qBound s a v L)) s first rest ws i (b - qBound s a v L) refl
         ∙ ap (afterTerm s first rest ws i) (sym f)
+
+-- ---- every number from a place on is a word
+abbrev pub WordsFrom : List ℤ → ℕ → Type 0
+WordsFrom ws n = (i : ℕ) → n ≤ i → Word (getD ws i (pos 0))
+
+-- the last one, behind which there is none
+pub none-behind : (ws : List ℤ) (n : ℕ) → length ws ≡ n + 1 → Word (getD ws n (pos 0)) → WordsFrom ws n
+none-behind ws n e h i g = at (eqb i n) refl
+  where
+    at : (t : Bool) → eqb i n ≡ t → Word (getD ws i (pos 0))
+    at true q = subst (λ (k : ℕ). Word (getD ws k (pos 0))) (sym (eqb-true i n q)) h
+    at false q = rw (List·getD-eq-default ws (pos 0) {n = i} (let d = eqb-false i n q in omega (arith, e))) (omega arith)
+
+-- and two more in front: b_i and a_(i+1)
+pub two-more : (ws : List ℤ) (i : ℕ) → Word (aAfter ws i) → Word (bAt ws i) → WordsFrom ws (suc i + suc i) → WordsFrom ws (i + i)
+two-more ws i a b h k g = at (eqb k (i + i)) refl (eqb k (i + i + 1)) refl
+  where
+    at : (t : Bool) → eqb k (i + i) ≡ t → (u : Bool) → eqb k (i + i + 1) ≡ u → Word (getD ws k (pos 0))
+    at true q u r = subst (λ (n : ℕ). Word (getD ws n (pos 0))) (sym (eqb-true k (i + i) q)) b
+    at false q true r = subst (λ (n : ℕ). Word (getD ws n (pos 0))) (sym (eqb-true k (i + i + 1) r)) a
+    at false q false r = h k (let d = eqb-false k (i + i) q in let e = eqb-false k (i + i + 1) r in omega arith)
 
 -- ---- by the mode
 pub mode-zero : (s A mode : ℕ) (ws : List ℤ) (k : ℕ) → mode ≡ 0 → admitInner s A A ws k ≡ fractionAdmission s A mode ws k

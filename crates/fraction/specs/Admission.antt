@@ -50,6 +50,10 @@ termBound s a b v L =
     (cond (ltb largest (natAbs b + qBound s a v L)) Beyond
     (Least (natAbs b - qBound s a v L)))
 
+-- the same of stored numbers: an a that is no word might stand beside a v of 0, and so be missed
+abbrev pub judgedTerm : ℕ → ℤ → ℤ → ℕ → ℕ → TermBound
+judgedTerm s a b v L = cond (ltb largest (natAbs a)) Beyond (termBound s a b v L)
+
 -- ---- worked examples: x/(1 - x/3) up to x = 2, where 1 - 2/3 is still apart from 0; up to 3, where it is not
 abbrev thirds : List ℤ
 thirds = pos 0 ∷ pos 16777216 ∷ pos 16777216 ∷ negsuc 16777215 ∷ pos 50331648 ∷ []

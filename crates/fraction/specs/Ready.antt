@@ -44,8 +44,8 @@ pub record FractionReady (s mode : ℕ) (ws : List ℤ) (k : ℕ) (x : ℤ) : Ty
   pub admitted : fractionAdmission s most mode ws k ≡ Admitted
 
 -- admission
-abbrev pub TermAsked : ℕ → ℤ → ℤ → ℕ → Type 0
-TermAsked s a b l = Scale s × Word a × Word b × (0 < l)
+abbrev pub TermAsked : ℕ → ℕ → Type 0
+TermAsked s l = Scale s × (0 < l)
 
-abbrev pub AdmissionAsked : ℕ → List ℤ → Type 0
-AdmissionAsked s ws = Scale s × Words ws
+abbrev pub AdmissionAsked : ℕ → ℕ → Type 0
+AdmissionAsked s k = Scale s × (0 < k)

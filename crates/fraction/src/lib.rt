@@ -3,9 +3,10 @@ ghost use mathlib.Core.Path.{_≡_};
 ghost use Prim.Native.Nat.{_+_, _*_, _^_, _<_};
 ghost use Rattle.word.specs.Words.{Word, Scale, productOf};
 ghost use Rattle.stored.specs.Words.{words, Stretch};
+ghost use Rattle.admission.specs.Admission.{Judged};
 ghost use Rattle.fraction.specs.Fraction.{at, firstOf, restOf, nextOf, outward, fractionOf};
 ghost use Rattle.fraction.specs.Ready.{StepReady, OutwardReady, FractionReady, TermAsked, AdmissionAsked};
-ghost use Rattle.fraction.specs.Admission.{termBound, admitInner, fractionAdmission};
+ghost use Rattle.fraction.specs.Admission.{judgedTerm, admitInner, fractionAdmission};
 use admission::Admission;
 
 // v_(i + 1) or its bound: the first one, or one of the rest.
@@ -86,10 +87,14 @@ enum TermBound {
 
 // The bounds of b + a·v/d, where |v| is at most `v` and |d| at least l.
 fn term_bound(a: i32, b: i32, v: u32, l: u32, s: u32) -> TermBound
-    requires { ⌜ TermAsked s a b l ⌝ }
-    ensures { λ r. ⌜ r ≡ termBound s a b v l ⌝ }
+    requires { ⌜ TermAsked s l ⌝ }
+    ensures { λ r. ⌜ r ≡ judgedTerm s a b v l ⌝ }
 {
-    let g = word::bound_product(word::magnitude(a), v, s);
+    let size = word::magnitude(a);
+    if 2147483647 < size {
+        return TermBound::Beyond;
+    }
+    let g = word::bound_product(size, v, s);
     if 2147483647 < g {
         return TermBound::Beyond;
     }
@@ -106,15 +111,18 @@ fn term_bound(a: i32, b: i32, v: u32, l: u32, s: u32) -> TermBound
 
 // From the innermost term outward: `first` bounds |v_1|, `rest` the others.
 fn admit_inner(b: &[u8], at: usize, k: usize, first: u32, rest: u32, s: u32) -> Admission
-    requires { ⌜ Stretch (now b) at (k + k + 1) × AdmissionAsked s (words (now b) at (k + k + 1)) ⌝ }
-    ensures { λ r. ⌜ r ≡ admitInner s first rest (words (now (b .entry)) at (k + k + 1)) k ⌝ }
+    requires { ⌜ Stretch (now b) at (k + k + 1) × AdmissionAsked s k ⌝ }
+    ensures { λ r. ⌜ Judged (words (now (b .entry)) at (k + k + 1)) (admitInner s first rest (words (now (b .entry)) at (k + k + 1)) k) r ⌝ }
 {
     let mut j = k;
     let mut l = word::magnitude(stored::get_word(b, at + 8 * k));
+    if 2147483647 < l {
+        return Admission::RangeLeft;
+    }
+    if l == 0 {
+        return Admission::DivisorZero;
+    }
     while j > 0 {
-        if l == 0 {
-            return Admission::DivisorZero;
-        }
         j -= 1;
         let place = at + 8 * j;
         let bound = term_bound(
@@ -127,6 +135,12 @@ fn admit_inner(b: &[u8], at: usize, k: usize, first: u32, rest: u32, s: u32) -> 
         let TermBound::Least(least) = bound else {
             return Admission::RangeLeft;
         };
+        if least == 0 {
+            if j == 0 {
+                return Admission::Admitted;
+            }
+            return Admission::DivisorZero;
+        }
         l = least;
     }
     Admission::Admitted
@@ -141,8 +155,8 @@ fn first_bound(mode: u32, most: u32, square: u32) -> u32
 
 // `most` is the larger of |lo| and |hi|.
 pub fn admit(b: &[u8], at: usize, k: usize, mode: u32, most: u32, s: u32) -> Admission
-    requires { ⌜ Stretch (now b) at (k + k + 1) × AdmissionAsked s (words (now b) at (k + k + 1)) ⌝ }
-    ensures { λ r. ⌜ r ≡ fractionAdmission s most mode (words (now (b .entry)) at (k + k + 1)) k ⌝ }
+    requires { ⌜ Stretch (now b) at (k + k + 1) × AdmissionAsked s k ⌝ }
+    ensures { λ r. ⌜ Judged (words (now (b .entry)) at (k + k + 1)) (fractionAdmission s most mode (words (now (b .entry)) at (k + k + 1)) k) r ⌝ }
 {
     if mode == 0 {
         return admit_inner(b, at, k, most, most, s);

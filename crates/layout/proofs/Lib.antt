@@ -1,6 +1,4 @@
 -- Laws, lowest first.
-pub mod Back
-pub mod NumberLaws
-pub mod Held
+pub mod Cut
+pub mod Complete
 pub mod Padded
-pub mod StoreLaws

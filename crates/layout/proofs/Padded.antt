@@ -1,19 +1,15 @@
 -- Runs of words, and the array that holds one.
-use mathlib.Core.Path.{_≡_, refl, subst}
+use mathlib.Core.Path.{_≡_, subst}
 use mathlib.Core.List.{List, [], _∷_, _++_, append-assoc}
-use Prim.Native.Nat.{ℕ, zero, suc, _+_, _-_, _*_, _<_, _≤_}
-use native.Mathlib.Numerals.{add-one}
+use Prim.Native.Nat.{ℕ, suc, _+_, _-_, _*_, _<_, _≤_}
 use native.Mathlib.Omega.{arith}
 use lib.ListN.{length, take, set, replicate, length-append, length-replicate}
 use lib.Seq.{set-append-seam, take-append-seam}
 use lib.IntN.{ℤ, pos}
-use Rattle.layout.specs.Numbers.{word4}
-use Rattle.layout.specs.Fields.{words, padded}
-
-pub length-words : (b : List ℕ) (at m : ℕ) → length (words b at m) ≡ m
-unfolding words
-length-words b at zero = refl
-length-words b at (suc m) = rw (length-append, length-words b at m, add-one)
+use Rattle.stored.specs.Numbers.{word4}
+use Rattle.stored.specs.Words.{words}
+use Rattle.stored.proofs.WordsLaws.{length-words, words-snoc}
+use Rattle.layout.specs.Fields.{padded}
 
 pub length-padded : (l : List ℤ) → length l ≤ 32 → length (padded l) ≡ 32
 unfolding padded
@@ -33,8 +29,7 @@ padded-more l v h =
 
 -- a turn of the loop that reads
 pub turn : (b : List ℕ) (at i : ℕ) (a : List ℤ) (v : ℤ) → i < 32 → a ≡ padded (words b at i) → v ≡ word4 b (at + 4 * i) → set a i v ≡ padded (words b at (i + 1))
-unfolding words
 turn b at i a v h e f =
     let n : length (words b at i) ≡ i = length-words b at i in
-    rw (e, f, add-one) (subst (λ (k : ℕ). set (padded (words b at i)) k (word4 b (at + 4 * i)) ≡ padded (words b at (suc i))) n
+    rw (e, f, words-snoc b at i) (subst (λ (k : ℕ). set (padded (words b at i)) k (word4 b (at + 4 * i)) ≡ padded (words b at i ++ (word4 b (at + 4 * i) ∷ []))) n
     (padded-more (words b at i) (word4 b (at + 4 * i)) (omega arith)))

@@ -1,23 +1,34 @@
 -- What the bytes of one record say, by the row of its kind.
-use Prim.Native.Nat.{ℕ, zero, suc, _+_, _-_, _*_, _/_, _≤_}
+use Prim.Native.Nat.{ℕ, _+_, _-_, _*_, _/_, _≤_}
 use mathlib.Core.Path.{_≡_, refl}
 use mathlib.Core.List.{List, [], _∷_, _++_}
 use mathlib.Core.Bool.{cond}
 use lib.Dec.{eqb}
-use lib.ListN.{length, replicate}
+use lib.ListN.{length, take, drop, replicate}
 use lib.IntN.{ℤ, pos}
+use Rattle.stored.specs.Numbers.{number2, number4, word4}
+use Rattle.stored.specs.Words.{words}
 use Rattle.formula.specs.declared.Kind.{Kind}
 use Rattle.formula.specs.declared.Kind.the-variants.{Polynomial, Rational}
 use Rattle.formula.specs.declared.Shape.{Shape}
 use Rattle.formula.specs.declared.Formula.{Formula}
+use Rattle.formula.specs.Formula.{storedWords}
 use Rattle.table.specs.declared.Class.the-variants.{FormulaRecord}
 use Rattle.table.specs.declared.Field.{Field}
 use Rattle.table.specs.declared.Row.{Row}
-use Rattle.table.specs.Table.{rows, firstRow, rowOf, wordsBy, lengthBy, Within}
+use Rattle.table.specs.Table.{rows, firstRow, rowOf, lengthBy, Within}
 use Rattle.table.specs.Rule.{Ruled}
-use Rattle.layout.specs.Numbers.{number2, word4}
 
--- the kind's code, a start's or an end's count, and a formula's number, lo and hi
+-- ---- a record in a sheet: the bytes from a place on, as many as the number there says
+unfoldable pub bytesAt : List ℕ → ℕ → List ℕ
+bytesAt s at = take (number4 s at) (drop at s)
+
+-- the sheet's bytes reach so far
+pub record Reaches (s : List ℕ) (at : ℕ) : Type 0 where
+  pub number : at + 4 ≤ length s
+  pub whole : at + number4 s at ≤ length s
+
+-- ---- the kind's code, a start's or an end's count, and a formula's number, lo and hi
 abbrev pub codeOf : List ℕ → ℕ
 codeOf b = number2 b 4
 
@@ -33,7 +44,11 @@ loOf b = word4 b 8
 abbrev pub hiOf : List ℕ → ℤ
 hiOf b = word4 b 12
 
--- the first count: by the record's length where it stands nowhere
+-- the row of the record's kind
+abbrev pub rowFor : List ℕ → Row
+rowFor b = rowOf (codeOf b)
+
+-- the first count: where it stands nowhere, the number of words by the record's length
 unfoldable pub firstCount : Row → List ℕ → ℕ
 firstCount r b = cond (eqb (r .p .at) 0) ((length b - r .head) / 4) (number2 b (r .p .at))
 
@@ -47,17 +62,12 @@ shape k p q m = record { kind = k; p = p; q = q; mode = m }
 unfoldable pub shapeOf : Row → List ℕ → Shape
 shapeOf r b = shape (r .kind) (firstCount r b) (fieldOf (r .q) b) (fieldOf (r .mode) b)
 
--- the m words from a place on
-unfoldable pub words : List ℕ → ℕ → ℕ → List ℤ
-words b at zero = []
-words b at (suc m) = words b at m ++ (word4 b (at + 4 * m) ∷ [])
+-- ---- the formula. Its words stand behind the head, as many as its kind and counts ask for; in an array there are zeros behind them, 32 in all
+abbrev pub wordsOf : Row → List ℕ → List ℤ
+wordsOf r b = storedWords (shapeOf r b) b (r .head)
 
--- with zeros behind them, 32 in all
 unfoldable pub padded : List ℤ → List ℤ
 padded l = l ++ replicate (32 - length l) (pos 0)
-
-abbrev pub wordsOf : Row → List ℕ → List ℤ
-wordsOf r b = words b (r .head) (wordsBy r (shapeOf r b .p) (shapeOf r b .q))
 
 abbrev pub formula : ℕ → Shape → ℤ → ℤ → List ℤ → Formula
 formula n h l u w = record { number = n; shape = h; lo = l; hi = u; words = w }
@@ -65,14 +75,14 @@ formula n h l u w = record { number = n; shape = h; lo = l; hi = u; words = w }
 unfoldable pub formulaOf : Row → List ℕ → Formula
 formulaOf r b = formula (formulaNumber b) (shapeOf r b) (loOf b) (hiOf b) (padded (wordsOf r b))
 
--- counts in their ranges, and the length that they ask for
+-- ---- counts in their ranges, and the length that they ask for
 pub record Laid (r : Row) (b : List ℕ) : Type 0 where
   pub p : Within (r .p) (shapeOf r b .p)
   pub q : Within (r .q) (shapeOf r b .q)
   pub exact : lengthBy r (shapeOf r b .p) (shapeOf r b .q) ≡ length b
 
 -- the bytes of a formula record, of the length that its kind and counts ask for
-pub record Held (r : Row) (b : List ℕ) : Type 0 where
+pub record Complete (r : Row) (b : List ℕ) : Type 0 where
   pub ruled : Ruled r
   pub class : r .class ≡ FormulaRecord
   pub least : 16 ≤ length b
@@ -87,3 +97,8 @@ by-length = refl
 by-fields : shapeOf (rowOf 0x0011) (replicate 16 0 ++ (3 ∷ 0 ∷ 2 ∷ 0 ∷ [])) ≡ shape Rational 3 2 0
 unfolding rows firstRow rowOf number2 firstCount fieldOf shapeOf
 by-fields = refl
+
+-- the second record of two, of three and of two bytes more than their lengths
+cut-out : bytesAt (5 ∷ 0 ∷ 0 ∷ 0 ∷ 7 ∷ 6 ∷ 0 ∷ 0 ∷ 0 ∷ 8 ∷ 9 ∷ 1 ∷ []) 5 ≡ 6 ∷ 0 ∷ 0 ∷ 0 ∷ 8 ∷ 9 ∷ []
+unfolding bytesAt number4
+cut-out = refl

@@ -1,3 +1,2 @@
 -- Sheet layout, as document 01 has it.
-pub mod Numbers
 pub mod Fields

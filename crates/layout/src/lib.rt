@@ -1,3 +1,2 @@
-// The layout of a sheet's records: numbers in bytes, and the fields of one record by the row of its kind.
+// The layout of a sheet's records: the fields of one record by their names, and a record cut out of a sheet.
 pub mod fields;
-pub mod numbers;

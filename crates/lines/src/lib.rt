@@ -11,7 +11,7 @@ ghost use Rattle.text.specs.Text.{Puts};
 ghost use Rattle.lines.specs.Listing.{kindName, intervalText, lineOf, linesFrom, countLine, refusalLine, listing};
 use formula::Kind;
 use layout::numbers;
-use records::refusal::Refusal;
+use records::Refusal;
 use sheet::answers::FormulaCount;
 use sheet::reader;
 

@@ -7,7 +7,6 @@ ghost use Rattle.table.specs.Table.{Within};
 ghost use Rattle.table.specs.Rule.{Ruled};
 ghost use Rattle.layout.specs.Fields.{padded};
 ghost use Rattle.record_bytes.specs.Kinds.{codeFor, onlyFormula, kept, plainShape, plainBy};
-use formula::Formula;
 use formula::Kind;
 use formula::Shape;
 use table::Class;
@@ -59,35 +58,5 @@ pub fn plain_shape(row: Row, shape: Shape) -> Shape
         p: kept(p, shape.p),
         q: kept(q, shape.q),
         mode: kept(mode, shape.mode),
-    }
-}
-
-// The first m words, into an array of zeros.
-fn copy_words(words: &[i32], m: usize, out: &mut [i32; 32])
-    requires { ⌜ (m ≤ 32) × (m ≤ length (now words)) × (now out ≡ padded []) ⌝ }
-    ensures { λ _. ⌜ now (out .exit) ≡ padded (take m (now (words .entry))) ⌝ }
-{
-    let mut i: usize = 0;
-    while i < m {
-        out[i] = words[i];
-        i += 1;
-    }
-}
-
-pub fn plain_by(row: Row, f: Formula) -> Formula
-    requires { ⌜ Ruled row × Within (row .p) (plainShape row (f .shape) .p) × Within (row .q) (plainShape row (f .shape) .q) ⌝ }
-    ensures { λ r. ⌜ r ≡ plainBy row f ⌝ }
-{
-    let given = f.shape;
-    let shape = plain_shape(row, given);
-    let stored = f.words;
-    let mut words = [0i32; 32];
-    copy_words(&stored, table::words_by(row, shape.p, shape.q), &mut words);
-    Formula {
-        number: f.number,
-        shape,
-        lo: f.lo,
-        hi: f.hi,
-        words,
     }
 }

@@ -1,7 +1,8 @@
--- A record without a fault in counts and length.
+-- A record without a fault in counts and length, and a row without counts, whose records have one length: the tests taken one by one.
 use mathlib.Core.Path.{_≡_, refl, sym, ap}
 use mathlib.Core.List.{List}
 use Prim.Native.Nat.{ℕ, zero, suc, _+_, _-_, _*_, _/_}
+use native.Mathlib.Nat.{mul-zero}
 use native.Mathlib.Omega.{arith}
 use mathlib.Core.Bool.{Bool, true, false, cond}
 use lib.Dec.{ltb, eqb}
@@ -9,7 +10,7 @@ use lib.ListN.{length}
 use borrow.Author.Tests.{lt-ltb, le-ltb, ltb-true, ltb-false, eq-eqb, ne-eqb, eqb-true, eqb-false}
 use Rattle.table.specs.declared.Field.{Field}
 use Rattle.table.specs.declared.Row.{Row}
-use Rattle.table.specs.Table.{wordsBy, lengthBy, Within}
+use Rattle.table.specs.Table.{piecesBy, lengthBy, Within}
 use Rattle.table.specs.Rule.{Bare}
 use Rattle.layout.specs.Fields.{firstCount, fieldOf, shapeOf, Laid}
 use Rattle.records.specs.Guard.{orElse}
@@ -31,22 +32,22 @@ counted r p q e =
 
 -- a row without counts has one length
 pub bare-length : (r : Row) (b : List ℕ) → Bare r → lengthFault r b ≡ cond (eqb (length b) (r .head)) 0 2
-unfolding outside countFault sizeFault lengthFault firstCount fieldOf shapeOf wordsBy
-bare-length r b u = rw (u .base, u .p, u .q) (by (r .head) (length b) _ refl)
+unfolding outside countFault sizeFault lengthFault firstCount fieldOf shapeOf piecesBy
+bare-length r b u = rw (u .base, u .p, u .q) (by (r .head) (length b) (r .width * (0 + 0 * ((length b - r .head) / 4) + 0 * 0)) _ (omega (arith, mul-zero (r .width))) refl)
   where
-    by : (h n p : ℕ) → p ≡ (n - h) / 4
-        → cond (ltb n h) 2 (orElse (orElse (cond (ltb p 0) 2 (cond (ltb 0 p) 2 0)) 0) (cond (eqb (h + 4 * (0 + 0 * p + 0 * 0)) n) 0 2)) ≡ cond (eqb n h) 0 2
-    by h n zero e = at (ltb n h) refl (eqb n h) refl
+    by : (h n m p : ℕ) → m ≡ 0 → p ≡ (n - h) / 4
+        → cond (ltb n h) 2 (orElse (orElse (cond (ltb p 0) 2 (cond (ltb 0 p) 2 0)) 0) (cond (eqb (h + m) n) 0 2)) ≡ cond (eqb n h) 0 2
+    by h n m zero z e = at (ltb n h) refl (eqb n h) refl
       where
-        at : (t : Bool) → ltb n h ≡ t → (u : Bool) → eqb n h ≡ u → _≡_ {A = ℕ} (cond t 2 (cond (eqb (h + 4 * (0 + 0 * 0 + 0 * 0)) n) 0 2)) (cond u 0 2)
+        at : (t : Bool) → ltb n h ≡ t → (u : Bool) → eqb n h ≡ u → _≡_ {A = ℕ} (cond t 2 (cond (eqb (h + m) n) 0 2)) (cond u 0 2)
         at true a true d = absurd (let k = ltb-true n h a in let l = eqb-true n h d in omega arith)
         at true a false d = refl
-        at false a true d = let l = eqb-true n h d in ap (λ (t : Bool). cond t 0 2) (eq-eqb (h + 4 * (0 + 0 * 0 + 0 * 0)) n (omega arith))
-        at false a false d = let l = eqb-false n h d in ap (λ (t : Bool). cond t 0 2) (ne-eqb (h + 4 * (0 + 0 * 0 + 0 * 0)) n (λ z. l (omega arith)))
-    by h n (suc p) e = rw (le-ltb (suc p) 0 (omega arith), lt-ltb 0 (suc p) (omega arith)) (at (ltb n h))
+        at false a true d = let l = eqb-true n h d in ap (λ (t : Bool). cond t 0 2) (eq-eqb (h + m) n (omega arith))
+        at false a false d = let l = eqb-false n h d in ap (λ (t : Bool). cond t 0 2) (ne-eqb (h + m) n (λ q. l (omega arith)))
+    by h n m (suc p) z e = rw (le-ltb (suc p) 0 (omega arith), lt-ltb 0 (suc p) (omega arith)) (at (ltb n h))
       where
         more : n ≡ h → ⊥
-        more z = omega arith
+        more q = omega arith
 
         at : (t : Bool) → _≡_ {A = ℕ} (cond t 2 2) (cond (eqb n h) 0 2)
         at true = ap (λ (t : Bool). cond t 0 2) (sym (ne-eqb n h more))

@@ -1,6 +1,7 @@
 -- Laws, lowest first.
 pub mod Chain
+pub mod Frames
 pub mod Lengths
 pub mod Values
 pub mod Soundness
-pub mod Steps
+pub mod FormulaLaws

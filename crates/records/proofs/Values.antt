@@ -1,25 +1,26 @@
--- The stored values of a formula: tests of words.
+-- The stored values of a formula: tests of words, one by one, and what they say of a whole list.
 use mathlib.Core.Path.{_≡_, refl, sym, ap, subst, _∙_}
-use mathlib.Core.List.{List, [], _∷_, _++_}
+use mathlib.Core.List.{List, [], _∷_}
 use mathlib.Core.Bool.{Bool, true, false, cond}
-use Prim.Native.Nat.{ℕ, zero, suc, _+_, _-_, _*_, _<_, _≤_}
+use Prim.Native.Nat.{ℕ, zero, suc, _+_, _<_, _≤_}
 use native.Mathlib.Numerals.{add-one}
 use native.Mathlib.Omega.{arith}
 use lib.Dec.{T, ltb, eqb}
-use lib.ListN.{length, getD, drop, replicate}
+use lib.ListN.{length, getD, drop}
 use lib.Seq.{drop-cons}
 use lib.IntN.{ℤ, pos, negsuc, natAbs}
 use lib.Signed.{ltZ}
 use mir.Syntax.{w32}
 use mir.Val.{SFits}
 use borrow.Author.Tests.{lt-ltb, le-ltb, ltb-true, ltb-false, eqb-true}
-use Rattle.formula.specs.declared.Shape.{Shape}
-use Rattle.table.specs.declared.Row.{Row}
-use Rattle.layout.specs.Fields.{words, padded}
-use Rattle.layout.specs.Numbers.{word4}
+use Rattle.word.specs.Words.{Word}
+use Rattle.admission.specs.Lists.{Words}
+use Rattle.admission.specs.Admission.{numberOf, Judged}
+use Rattle.admission.specs.declared.Admission.{Admission}
+use Rattle.admission.specs.declared.Admission.the-variants.{Admitted, RangeLeft, DivisorZero}
 use Rattle.records.specs.Guard.{orElse}
-use Rattle.records.specs.Faults.{wordFault, wordsFault, outside, intervalFault, kindFault, ownFault, valueFault}
-use Rattle.records.proofs.Chain.{halts, goes, stop, pass, passed, or-assoc}
+use Rattle.records.specs.Faults.{wordFault, wordsFault, intervalFault, judgedFault}
+use Rattle.records.proofs.Chain.{halts, goes, pass, passed, neither}
 
 -- below the least word is the same as no word
 pub no-word : (z : ℤ) → SFits w32 z → ltZ z (negsuc 2147483646) ≡ ltb 2147483647 (natAbs z)
@@ -62,57 +63,35 @@ module _ (l : List ℤ) (i : ℕ) (h : i < length l) where
   unfolding wordsFault
   word-good e z = rw (add-one i, drop-cons l i (pos 0) h) (sym (goes (λ (k : ℕ). k) e z refl))
 
--- ---- zeros behind the words are no fault
+-- ---- of a whole list: no fault is that all are words
 
-zeros : (n : ℕ) → wordsFault (replicate n (pos 0)) ≡ 0
+pub word : (z : ℤ) → wordFault z ≡ 0 → Word z
+word z e = ltb-false 2147483647 (natAbs z) (passed (ltb 2147483647 (natAbs z)) 6 0 (λ q. omega arith) e .0)
+
+pub each-word : (l : List ℤ) → wordsFault l ≡ 0 → Words l
 unfolding wordsFault
-zeros zero = refl
-zeros (suc n) = zeros n
+each-word [] e i = omega arith
+each-word (z ∷ l) e zero = word z (neither (wordFault z) (wordsFault l) e .0)
+each-word (z ∷ l) e (suc i) = each-word l (neither (wordFault z) (wordsFault l) e .1) i
 
-behind : (l z : List ℤ) → wordsFault z ≡ 0 → wordsFault (l ++ z) ≡ wordsFault l
+pub all-words : (l : List ℤ) → Words l → wordsFault l ≡ 0
 unfolding wordsFault
-behind [] z e = e
-behind (x ∷ l) z e = ap (orElse (wordFault x)) (behind l z e)
+all-words [] h = refl
+all-words (z ∷ l) h = rw (le-ltb 2147483647 (natAbs z) (h 0)) (all-words l (λ i. h (suc i)))
 
-pub padded-fault : (r : Row) (h : Shape) (lo hi : ℤ) (l : List ℤ) → valueFault r h lo hi (padded l) ≡ valueFault r h lo hi l
-unfolding valueFault padded
-padded-fault r h lo hi l = rw (behind l (replicate (32 - length l) (pos 0)) (zeros (32 - length l)))
-
--- all but the words, and then the words
-pub own-then-words : (r : Row) (h : Shape) (lo hi : ℤ) (l : List ℤ) → orElse (ownFault r h lo hi) (wordsFault l) ≡ valueFault r h lo hi l
-unfolding ownFault valueFault
-own-then-words r h lo hi l =
-    let k = kindFault (r .kind) lo in
-    let m = outside (r .mode) (h .mode) 6 in
-    or-assoc (intervalFault lo hi) (orElse m k) (wordsFault l) ∙ ap (orElse (intervalFault lo hi)) (or-assoc m k (wordsFault l))
-
--- ---- words read one after the other
-one-more : (l : List ℤ) (z : ℤ) → wordsFault (l ++ (z ∷ [])) ≡ orElse (wordsFault l) (wordFault z)
-unfolding wordsFault
-one-more [] z = or-zero (wordFault z)
+-- ---- by what admission has found: 6 of the words, then its number
+pub judged-fault : (ws : List ℤ) (a found : Admission) → Judged ws a found → judgedFault ws found ≡ orElse (wordsFault ws) (numberOf a)
+judged-fault ws a found j = at found refl
   where
-    or-zero : (a : ℕ) → orElse a 0 ≡ orElse 0 a
-    or-zero a = at (eqb a 0) refl
+    -- a number that refuses, where the words have no fault of their own
+    refuses : (n : ℕ) → (Words ws → n ≡ numberOf a) → orElse (wordsFault ws) n ≡ orElse (wordsFault ws) (numberOf a)
+    refuses n h = by (eqb (wordsFault ws) 0) refl
       where
-        at : (t : Bool) → eqb a 0 ≡ t → cond t 0 a ≡ a
-        at true e = sym (eqb-true a 0 e)
-        at false e = refl
-one-more (x ∷ l) z = ap (orElse (wordFault x)) (one-more l z) ∙ sym (or-assoc (wordFault x) (wordsFault l) (wordFault z))
+        by : (t : Bool) → eqb (wordsFault ws) 0 ≡ t → cond t n (wordsFault ws) ≡ cond t (numberOf a) (wordsFault ws)
+        by true q = h (each-word ws (eqb-true _ _ q))
+        by false q = refl
 
-module _ (b : List ℕ) (at i : ℕ) (fine : wordsFault (words b at i) ≡ 0) {f : ℕ} (e : f ≡ wordFault (word4 b (at + 4 * i))) where
-  -- one word more, at any length
-  longer : (m : ℕ) → wordsFault (words b at (suc m)) ≡ orElse (wordsFault (words b at m)) (wordFault (word4 b (at + 4 * m)))
-  unfolding words
-  longer m = one-more (words b at m) (word4 b (at + 4 * m))
-
-  -- the word at i is none: so it is in the run of any length past it
-  pub bad-word : (f ≡ 0 → ⊥) → (k : ℕ) → f ≡ wordsFault (words b at (suc i + k))
-  bad-word h zero =
-      let n : suc i ≡ suc i + 0 = omega arith in
-      pass refl fine e ∙ sym (longer i) ∙ ap (λ (m : ℕ). wordsFault (words b at m)) n
-  bad-word h (suc k) =
-      let n : suc (suc i + k) ≡ suc i + suc k = omega arith in
-      stop _ (bad-word h k) h ∙ sym (longer (suc i + k)) ∙ ap (λ (m : ℕ). wordsFault (words b at m)) n
-
-  pub good-word : f ≡ 0 → wordsFault (words b at (i + 1)) ≡ 0
-  good-word h = rw (add-one i) (longer i ∙ sym (pass refl fine (sym h ∙ e)))
+    at : (f : Admission) → found ≡ f → judgedFault ws f ≡ orElse (wordsFault ws) (numberOf a)
+    at Admitted e = let w = j .words e in pass refl (all-words ws w) (ap numberOf (sym e ∙ j .same w))
+    at RangeLeft e = refuses 7 (λ w. ap numberOf (sym e ∙ j .same w))
+    at DivisorZero e = refuses 8 (λ w. ap numberOf (sym e ∙ j .same w))

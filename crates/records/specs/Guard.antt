@@ -2,7 +2,7 @@
 use Prim.Native.Nat.{ℕ}
 use mathlib.Core.Bool.{cond}
 use lib.Dec.{eqb}
-use Rattle.records.specs.declared.refusal.Refusal.{Refusal}
+use Rattle.records.specs.declared.Refusal.{Refusal}
 
 -- the paper's number, and the place of the byte that it names
 abbrev pub refusal : ℕ → ℕ → Refusal

@@ -1,6 +1,6 @@
 // What the reader answers.
 use formula::Formula;
-use records::refusal::Refusal;
+use records::Refusal;
 
 pub enum FormulaCount {
     Count(u16),

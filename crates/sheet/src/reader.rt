@@ -1,9 +1,4 @@
 // The reader: a sheet's formula count, and the whole decoded formula of a number. One pass over the sheet each.
-ghost use mathlib.Core.Path.{_≡_};
-ghost use Rattle.layout.specs.Fields.{formulaOf};
-ghost use Rattle.records.specs.Faults.{rowFor};
-ghost use Rattle.records.specs.Sheets.{FormulaBytes};
-ghost use Rattle.sheet.specs.Reader.{formulaCount, formulaPlace, noFormula, withheld, formulaAt, formulaRead, Standing};
 use crate::answers::FormulaCount;
 use crate::answers::Found;
 use crate::answers::Place;
@@ -11,28 +6,22 @@ use crate::answers::Reading;
 use formula::Formula;
 use formula::Kind;
 use formula::Shape;
-use layout::fields;
-use layout::numbers;
-use records::refusal::Refusal;
+use records::Refusal;
 use walking::Walked;
 
 // Above every number: none is asked for.
 pub const NO_NUMBER: u32 = 65536;
 
-pub fn formula_count(s: &[u8]) -> FormulaCount
-    ensures { λ r. ⌜ r ≡ formulaCount (now (s .entry)) ⌝ }
-{
-    match walking::walk_over(s, NO_NUMBER) {
+pub fn formula_count(s: &[u8], places: u32) -> FormulaCount {
+    match walking::walk_over(s, 0, NO_NUMBER, places) {
         Walked::Whole { count, found: _ } => FormulaCount::Count(count),
         Walked::Broken(r) => FormulaCount::Refused(r),
     }
 }
 
 // For a caller that reads the record's fields itself.
-pub fn formula_place(s: &[u8], number: u16) -> Place
-    ensures { λ r. ⌜ r ≡ formulaPlace (now (s .entry)) number ⌝ }
-{
-    match walking::walk_over(s, number as u32) {
+pub fn formula_place(s: &[u8], number: u16, places: u32) -> Place {
+    match walking::walk_over(s, 0, number as u32, places) {
         Walked::Whole { count: _, found } => {
             if found == 0 {
                 return Place::Refused(Refusal {
@@ -46,9 +35,7 @@ pub fn formula_place(s: &[u8], number: u16) -> Place
     }
 }
 
-fn no_formula() -> Formula
-    ensures { λ r. ⌜ r ≡ noFormula ⌝ }
-{
+fn no_formula() -> Formula {
     Formula {
         number: 0,
         shape: Shape {
@@ -63,38 +50,22 @@ fn no_formula() -> Formula
     }
 }
 
-fn withheld(r: Refusal) -> Reading
-    ensures { λ x. ⌜ x ≡ withheld r ⌝ }
-{
+fn withheld(r: Refusal) -> Reading {
     Reading {
         found: Found::Refused(r),
         formula: no_formula(),
     }
 }
 
-fn formula_in(b: &[u8]) -> Formula
-    requires { ⌜ FormulaBytes (now b) ⌝ }
-    ensures { λ r. ⌜ r ≡ formulaOf (rowFor (now (b .entry))) (now (b .entry)) ⌝ }
-{
-    fields::formula_of(b, table::row_of(numbers::get2(b, 4)))
+fn formula_in(b: &[u8]) -> Formula {
+    layout::formula_of(b, table::row_of(layout::code(b)))
 }
 
-fn formula_at(s: &[u8], place: usize) -> Formula
-    requires { ⌜ Standing (now s) place ⌝ }
-    ensures { λ r. ⌜ r ≡ formulaAt (now (s .entry)) place ⌝ }
-{
-    let n = numbers::get4(s, place) as usize;
-    let e = place + n;
-    formula_in(&s[place..e])
-}
-
-pub fn read_formula(s: &[u8], number: u16) -> Reading
-    ensures { λ r. ⌜ r ≡ formulaRead (now (s .entry)) number ⌝ }
-{
-    match formula_place(s, number) {
+pub fn read_formula(s: &[u8], number: u16, places: u32) -> Reading {
+    match formula_place(s, number, places) {
         Place::At(place) => Reading {
             found: Found::Given,
-            formula: formula_at(s, place),
+            formula: formula_in(layout::record_at(s, place)),
         },
         Place::Refused(r) => withheld(r),
     }

@@ -1,31 +1,17 @@
 // The sheet writer: one pass over the run to check it, and one to copy it.
-ghost use mathlib.Core.Path.{_≡_};
-ghost use Prim.Native.Nat.{_+_, _≤_};
-ghost use lib.ListN.{length};
-ghost use lib.Seq.{sets};
-ghost use Rattle.record_writer.specs.Answers.{bufferAfter};
-ghost use Rattle.sheet_writer.specs.SheetWriter.{boundBytes, sheetBytes, sheetWriting, sheetOf};
 
-mod runs;
-
-use layout::numbers;
 use record_writer::answers;
 use record_writer::answers::Writing;
-use sheet::answers::FormulaCount;
+use sheet::reader;
+use walking::Walked;
 
-fn put_bound(out: &mut [u8], at: usize, code: u16, count: u16)
-    requires { ⌜ at + 8 ≤ length (now out) ⌝ }
-    ensures { λ _. ⌜ now (out .exit) ≡ sets (now (out .entry)) at (boundBytes code count) ⌝ }
-{
-    numbers::put4(out, at, 8);
-    numbers::put2(out, at + 4, code);
-    numbers::put2(out, at + 6, count);
+fn put_bound(out: &mut [u8], at: usize, code: u16, count: u16) {
+    stored::put4(out, at, 8);
+    stored::put2(out, at + 4, code);
+    stored::put2(out, at + 6, count);
 }
 
-fn put_run(out: &mut [u8], run: &[u8])
-    requires { ⌜ 8 + length (now run) ≤ length (now out) ⌝ }
-    ensures { λ _. ⌜ now (out .exit) ≡ sets (now (out .entry)) 8 (now (run .entry)) ⌝ }
-{
+fn put_run(out: &mut [u8], run: &[u8]) {
     let mut i: usize = 0;
     while i < run.len() {
         out[8 + i] = run[i];
@@ -33,23 +19,22 @@ fn put_run(out: &mut [u8], run: &[u8])
     }
 }
 
-fn put_sheet(out: &mut [u8], run: &[u8], count: u16)
-    requires { ⌜ length (now run) + 16 ≤ length (now out) ⌝ }
-    ensures { λ _. ⌜ now (out .exit) ≡ sets (now (out .entry)) 0 (sheetBytes count (now (run .entry))) ⌝ }
-{
+fn put_sheet(out: &mut [u8], run: &[u8], count: u16) {
     put_bound(out, 0, 0x0001, count);
     put_run(out, run);
     put_bound(out, 8 + run.len(), 0xffff, count);
 }
 
-pub fn write_sheet(run: &[u8], out: &mut [u8]) -> Writing
-    ensures { λ r. ⌜ (r ≡ sheetWriting (now (run .entry)) (length (now (out .entry)))) × (now (out .exit) ≡ bufferAfter r (sheetOf (now (run .entry))) (now (out .entry))) ⌝ }
-{
+pub fn write_sheet(run: &[u8], out: &mut [u8], places: u32) -> Writing {
+    let f = records::scale_fault(places);
+    if f != 0 {
+        return answers::refused_by(f);
+    }
     if run.len() == 0 {
         return answers::refused_by(4);
     }
-    match runs::run_count(run) {
-        FormulaCount::Count(count) => {
+    match walking::walk_over(run, 8, reader::NO_NUMBER, places) {
+        Walked::Whole { count, found: _ } => {
             let n = run.len() + 16;
             if out.len() < n {
                 return answers::refused_by(12);
@@ -57,6 +42,6 @@ pub fn write_sheet(run: &[u8], out: &mut [u8]) -> Writing
             put_sheet(out, run, count);
             Writing::Written(n)
         }
-        FormulaCount::Refused(r) => Writing::Refused(r),
+        Walked::Broken(r) => Writing::Refused(r),
     }
 }

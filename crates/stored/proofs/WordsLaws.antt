@@ -6,6 +6,7 @@ use native.Mathlib.Nat.{add-assoc}
 use native.Mathlib.Omega.{arith}
 use lib.IntN.{ℤ, pos}
 use lib.ListN.{length, getD, take, drop}
+use lib.Seq.{take-all}
 use mir.Syntax.{w32}
 use mir.Val.{toZ}
 use Rattle.stored.specs.Numbers.{word4}
@@ -23,6 +24,9 @@ unfolding words
 word-at b at zero i h = absurd (omega arith)
 word-at b at (suc m) zero h = let e : at ≡ at + 4 * 0 = omega arith in ap (word4 b) e
 word-at b at (suc m) (suc i) h = let e : at + 4 + 4 * i ≡ at + 4 * suc i = omega arith in word-at b (at + 4) m i (omega arith) ∙ ap (word4 b) e
+
+pub words-all : (b : List ℕ) (at m : ℕ) → take m (words b at m) ≡ words b at m
+words-all b at m = take-all m (words b at m) (omega (arith, length-words b at m))
 
 -- ---- two stretches, one behind the other
 pub words-both : (b : List ℕ) (at p q : ℕ) → words b at (p + q) ≡ words b at p ++ words b (at + 4 * p) q
@@ -47,6 +51,11 @@ words-drop b at (suc p) q =
     let e : at + 4 + 4 * p ≡ at + 4 * suc p = omega arith in
     let f : suc p + q ≡ suc (p + q) = omega arith in
     ap (λ (k : ℕ). drop (suc p) (words b at k)) f ∙ words-drop b (at + 4) p q ∙ ap (λ (k : ℕ). words b k q) e
+
+-- one word more, as a loop reads it
+pub words-snoc : (b : List ℕ) (at m : ℕ) → words b at (m + 1) ≡ words b at m ++ (word4 b (at + 4 * m) ∷ [])
+unfolding words
+words-snoc b at m = words-both b at m 1
 
 -- ---- in a part of a list of bytes, and in one that goes on
 pub words-in : (s : List ℕ) (k n at m : ℕ) → at + 4 * m ≤ n → words (take n (drop k s)) at m ≡ words s (k + at) m

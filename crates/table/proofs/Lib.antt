@@ -1,3 +1,6 @@
 -- Laws, lowest first.
-pub mod TableLaws
+pub mod Tested
+pub mod Search
+pub mod KindLaws
 pub mod Rule
+pub mod OrderLaws

@@ -1,111 +1,103 @@
--- The rule of the table: a test that is computed over its rows, and what the rows of formulas have to do with their kinds.
-use mathlib.Core.List.{List, [], _∷_}
-use mathlib.Core.Path.{_≡_, refl, ap}
-use mathlib.Core.Bool.{Bool, true, false, _&&_}
+-- The rule of the table, each clause by a test that is computed over its rows; and what it says of every record of a row.
+use mathlib.Core.Path.{_≡_, sym, ap, subst, _∙_}
+use mathlib.Core.Bool.{Bool, true, false, cond, _&&_}
 use Prim.Native.Nat.{ℕ, _+_, _*_, _≤_}
-use native.Mathlib.Nat.{mul-le-mul-left}
+use native.Mathlib.Nat.{mul-le-mul-left, mul-zero}
 use native.Mathlib.Omega.{arith}
-use lib.Dec.{T, leb, leb→le}
-use Rattle.table.specs.Table.{rows, rowOf, wordsBy, lengthBy}
-use Rattle.table.specs.Rule.{leastHead, Meets, Framing, Bare, Ruled}
-use Rattle.table.specs.declared.Class.{Class}
-use Rattle.table.specs.declared.Class.the-variants.{StartRecord, FormulaRecord, EndRecord, Unknown}
+use lib.Dec.{T, eqb, eqb→eq}
+use Rattle.formula.specs.declared.Kind.{Kind}
+use Rattle.formula.specs.declared.Kind.the-variants.{Polynomial, Rational, Fraction, Root, NoFormula}
+use Rattle.table.specs.Table.{rows, field, none, firstRow, rowOf, piecesBy, lengthBy}
+use Rattle.table.specs.Codes.{codeFor, startRow, endRow}
+use Rattle.table.specs.Rule.{leastHead, countField, Meets, Many, Framing, Bare, Ruled}
+use Rattle.table.specs.declared.Class.the-variants.{StartRecord, FormulaRecord, EndRecord}
+use Rattle.table.specs.declared.Field.{Field}
 use Rattle.table.specs.declared.Row.{Row}
-use Rattle.table.proofs.TableLaws.{Each, _also_, each-row}
+use Rattle.table.proofs.Tested.{both, tested, at-most, of-class, of-framing}
+use Rattle.table.proofs.KindLaws.{row-by-kind, start-row, end-row}
 
-both : (a b : Bool) → T (a && b) → T a × T b
-both true b t = (tt, t)
-both false b t = absurd t
+-- ---- two fields with the same numbers
 
-every : (Row → Bool) → List Row → Bool
-every f [] = true
-every f (r ∷ rs) = f r && every f rs
+abbrev sameField : Field → Field → Bool
+sameField f g = eqb (f .at) (g .at) && (eqb (f .least) (g .least) && (eqb (f .most) (g .most) && eqb (f .each) (g .each)))
 
-passed : (f : Row → Bool) (l : List Row) → T (every f l) → Each (λ r. T (f r)) l
-unfolding every
-passed f [] t = tt
-passed f (r ∷ rs) t = let u = both (f r) (every f rs) t in (u .0, passed f rs (u .1))
+same-field : (f g : Field) → T (sameField f g) → f ≡ g
+same-field f g t =
+    let u = both (eqb (f .at) (g .at)) _ t in
+    let v = both (eqb (f .least) (g .least)) _ (u .1) in
+    let w = both (eqb (f .most) (g .most)) _ (v .1) in
+    λ i. field (eqb→eq (f .at) (g .at) (u .0) i) (eqb→eq (f .least) (g .least) (v .0) i) (eqb→eq (f .most) (g .most) (w .0) i) (eqb→eq (f .each) (g .each) (w .1) i)
 
-test : Row → Bool
-test r =
-    leb (leastHead (r .class)) (r .head)
-    && (leb (r .head) 20
-    && (leb (r .p .at + 2) (r .head)
-    && (leb (r .q .at + 2) (r .head)
-    && (leb (r .mode .at + 2) (r .head)
-    && leb (r .base + r .p .each * r .p .most + r .q .each * r .q .most) 32))))
+-- ---- the rule
 
--- two classes that are not the same
-abbrev pub tag : Class → ℕ
-tag StartRecord = 0
-tag FormulaRecord = 1
-tag EndRecord = 2
-tag Unknown = 3
+-- kind by kind: a new one adds its own
+met : (k : Kind) → rowOf (codeFor k) .class ≡ FormulaRecord → Meets (rowOf (codeFor k))
+unfolding rowOf codeFor firstRow rows
+met Polynomial e p q m a b d = a
+met Rational e p q m a b d = (a .0, a .1, b .0, b .1)
+met Fraction e p q m a b d = (a .0, a .1, d .1)
+met Root e p q m a b d = tt
+met NoFormula e p q m a b d = absurd (let z : _≡_ {A = ℕ} 0 1 = cc in omega arith)
 
-pub apart : {A : Type 0} {k l : Class} → (tag k ≡ tag l → ⊥) → k ≡ l → A
-apart h e = absurd (h (ap tag e))
-
--- row by row: a new kind adds its own
-met : (c : ℕ) → rowOf c .class ≡ FormulaRecord → Meets (rowOf c)
-unfolding rows wordsBy
-met =
-    each-row (λ r. r .class ≡ FormulaRecord → Meets r)
-    (apart (λ z. omega arith)
-    also (λ e p q m a b d. (a, omega arith))
-    also (λ e p q m a b d. ((a .0, a .1, b .0, b .1), omega arith))
-    also (λ e p q m a b d. ((a .0, a .1, d .1), omega arith))
-    also (λ e p q m a b d. (tt, omega arith))
-    also apart (λ z. omega arith)
-    also tt)
-    (apart (λ z. omega arith))
+many : (k : Kind) → Many (rowOf (codeFor k))
+unfolding rowOf codeFor firstRow rows piecesBy
+many Polynomial p q = omega arith
+many Rational p q = omega arith
+many Fraction p q = omega arith
+many Root p q = omega arith
+many NoFormula p q = omega arith
 
 bare : (c : ℕ) → Framing (rowOf c .class) → Bare (rowOf c)
 unfolding rows
-bare =
-    each-row (λ r. Framing (r .class) → Bare r)
-    ((λ n. record { base = refl; p = refl; q = refl })
-    also (λ n. absurd n)
-    also (λ n. absurd n)
-    also (λ n. absurd n)
-    also (λ n. absurd n)
-    also (λ n. record { base = refl; p = refl; q = refl })
-    also tt)
-    (λ n. record { base = refl; p = refl; q = refl })
+bare c h =
+    record {
+      base = eqb→eq _ _ (of-framing (λ r. eqb (r .base) 0) tt c h);
+      p = same-field _ _ (of-framing (λ r. sameField (r .p) none) tt c h);
+      q = same-field _ _ (of-framing (λ r. sameField (r .q) none) tt c h);
+    }
 
 pub ruled : (c : ℕ) → Ruled (rowOf c)
-unfolding every test rows
+unfolding rows piecesBy
 ruled c =
-    let r = rowOf c in
-    let t = both (leb (leastHead (r .class)) (r .head)) _ (each-row (λ x. T (test x)) (passed test rows tt) tt c) in
-    let u = both (leb (r .head) 20) _ (t .1) in
-    let v = both (leb (r .p .at + 2) (r .head)) _ (u .1) in
-    let w = both (leb (r .q .at + 2) (r .head)) _ (v .1) in
-    let x = both (leb (r .mode .at + 2) (r .head)) _ (w .1) in
     record {
-      least = leb→le _ _ (t .0);
-      most = leb→le _ _ (u .0);
-      p = leb→le _ _ (v .0);
-      q = leb→le _ _ (w .0);
-      mode = leb→le _ _ (x .0);
-      words = leb→le _ _ (x .1);
-      kind = met c;
+      least = at-most (λ r. leastHead (r .class)) (λ r. r .head) tt c;
+      most = at-most (λ r. r .head) (λ r. 20) tt c;
+      p = at-most (λ r. r .p .at + 2) (λ r. r .head) tt c;
+      q = at-most (λ r. r .q .at + 2) (λ r. r .head) tt c;
+      mode = at-most (λ r. r .mode .at + 2) (λ r. r .head) tt c;
+      count = at-most (λ r. r .count .at + 2) (λ r. r .head) tt c;
+      pieces = at-most (λ r. piecesBy r (r .p .most) (r .q .most)) (λ r. 32) tt c;
+      longest = at-most (λ r. lengthBy r (r .p .most) (r .q .most)) (λ r. 120) tt c;
+      counted = same-field _ _ (tested (λ r. sameField (r .count) (countField (r .class))) tt c);
+      words = λ e. eqb→eq _ _ (of-class FormulaRecord (λ r. eqb (r .width) 4) tt c e);
+      kind = λ e. let n = row-by-kind c e in subst Meets n (met (rowOf c .kind) (ap (λ (r : Row). r .class) n ∙ e));
+      many = λ e. subst Many (row-by-kind c e) (many (rowOf c .kind));
       bare = bare c;
     }
 
--- an end record has no words
-pub end-length : (c : ℕ) → rowOf c .class ≡ EndRecord → (p q : ℕ) → lengthBy (rowOf c) p q ≡ 8
-unfolding rows wordsBy
-end-length =
-    each-row (λ r. r .class ≡ EndRecord → (p q : ℕ) → lengthBy r p q ≡ 8)
-    (apart (λ z. omega arith)
-    also apart (λ z. omega arith)
-    also apart (λ z. omega arith)
-    also apart (λ z. omega arith)
-    also apart (λ z. omega arith)
-    also (λ e p q. omega arith)
-    also tt)
-    (apart (λ z. omega arith))
+-- ---- what it says of a record with counts in their ranges: few pieces and few bytes, because a product grows with its factor
 
--- few words, because a product grows with its factor
-pub few : (r : Row) (p q : ℕ) → Ruled r → p ≤ r .p .most → q ≤ r .q .most → r .base + r .p .each * p + r .q .each * q ≤ 32
-few r p q u a b = omega (arith, u .words, mul-le-mul-left (r .p .each) a, mul-le-mul-left (r .q .each) b)
+module _ (r : Row) (p q : ℕ) (u : Ruled r) (a : p ≤ r .p .most) (b : q ≤ r .q .most) where
+  fewer : piecesBy r p q ≤ piecesBy r (r .p .most) (r .q .most)
+  unfolding piecesBy
+  fewer = omega (arith, mul-le-mul-left (r .p .each) a, mul-le-mul-left (r .q .each) b)
+
+  pub few : piecesBy r p q ≤ 32
+  few = omega (arith, fewer, u .pieces)
+
+  pub short : lengthBy r p q ≤ 120
+  short = omega (arith, mul-le-mul-left (r .width) fewer, u .longest)
+
+-- ---- a record that is no formula is as long as its head
+
+pub framing-length : (c : ℕ) → Framing (rowOf c .class) → (p q : ℕ) → lengthBy (rowOf c) p q ≡ rowOf c .head
+unfolding piecesBy
+framing-length c h p q = let b = bare c h in rw (b .base, b .p, b .q) (omega (arith, mul-zero (rowOf c .width)))
+
+pub start-length : (c : ℕ) → rowOf c .class ≡ StartRecord → (p q : ℕ) → lengthBy (rowOf c) p q ≡ 8
+unfolding startRow firstRow rows
+start-length c e p q = framing-length c (subst Framing (sym e) tt) p q ∙ ap (λ (r : Row). r .head) (start-row c e)
+
+pub end-length : (c : ℕ) → rowOf c .class ≡ EndRecord → (p q : ℕ) → lengthBy (rowOf c) p q ≡ 8
+unfolding endRow firstRow rows
+end-length c e p q = framing-length c (subst Framing (sym e) tt) p q ∙ ap (λ (r : Row). r .head) (end-row c e)

@@ -4,8 +4,9 @@ use mathlib.Core.Path.{_≡_}
 use Rattle.formula.specs.Formula.{Counted, wordCount}
 use Rattle.table.specs.declared.Class.{Class}
 use Rattle.table.specs.declared.Class.the-variants.{StartRecord, FormulaRecord, EndRecord, Unknown}
+use Rattle.table.specs.declared.Field.{Field}
 use Rattle.table.specs.declared.Row.{Row}
-use Rattle.table.specs.Table.{none, Within, wordsBy}
+use Rattle.table.specs.Table.{field, none, Within, piecesBy, lengthBy}
 
 -- how far a class's own fields go: to the count, or to number, lo and hi
 abbrev pub leastHead : Class → ℕ
@@ -14,11 +15,20 @@ leastHead FormulaRecord = 16
 leastHead EndRecord = 8
 leastHead Unknown = 8
 
--- counts and mode in the row's ranges are what the formula's kind asks for, and so is the number of words
+-- the count that a class of records has: that of a start and of an end goes from 1 to 64
+abbrev pub countField : Class → Field
+countField StartRecord = field 6 1 64 0
+countField FormulaRecord = none
+countField EndRecord = field 6 1 64 0
+countField Unknown = none
+
+-- counts and mode in the row's ranges are what the formula's kind asks for
 abbrev pub Meets : Row → Type 0
-Meets r =
-    (p q mode : ℕ) → Within (r .p) p → Within (r .q) q → Within (r .mode) mode
-    → Counted (r .kind) p q mode × (wordCount (r .kind) p q ≡ wordsBy r p q)
+Meets r = (p q mode : ℕ) → Within (r .p) p → Within (r .q) q → Within (r .mode) mode → Counted (r .kind) p q mode
+
+-- and as many pieces as the kind has words
+abbrev pub Many : Row → Type 0
+Many r = (p q : ℕ) → wordCount (r .kind) p q ≡ piecesBy r p q
 
 -- a class of records that are no formulas
 abbrev pub Framing : Class → Type 0
@@ -27,19 +37,32 @@ Framing FormulaRecord = ⊥
 Framing EndRecord = Unit
 Framing Unknown = Unit
 
--- neither counts nor words: a record of the row has one length
+-- a class that rows of the table have
+abbrev pub Known : Class → Type 0
+Known StartRecord = Unit
+Known FormulaRecord = Unit
+Known EndRecord = Unit
+Known Unknown = ⊥
+
+-- neither counts of pieces nor pieces: a record of the row is as long as its head
 pub record Bare (r : Row) : Type 0 where
   pub base : r .base ≡ 0
   pub p : r .p ≡ none
   pub q : r .q ≡ none
 
--- the fields stand in front of the words, an array of 32 holds these, a formula's row meets its kind, and any other is bare
+-- the fields stand in front of the pieces, an array of 32 holds these, and the longest record has at most 120 bytes; a formula's row
+-- meets its kind, and any other is bare
 pub record Ruled (r : Row) : Type 0 where
   pub least : leastHead (r .class) ≤ r .head
   pub most : r .head ≤ 20
   pub p : r .p .at + 2 ≤ r .head
   pub q : r .q .at + 2 ≤ r .head
   pub mode : r .mode .at + 2 ≤ r .head
-  pub words : r .base + r .p .each * r .p .most + r .q .each * r .q .most ≤ 32
+  pub count : r .count .at + 2 ≤ r .head
+  pub pieces : piecesBy r (r .p .most) (r .q .most) ≤ 32
+  pub longest : lengthBy r (r .p .most) (r .q .most) ≤ 120
+  pub counted : r .count ≡ countField (r .class)
+  pub words : r .class ≡ FormulaRecord → r .width ≡ 4
   pub kind : r .class ≡ FormulaRecord → Meets r
+  pub many : r .class ≡ FormulaRecord → Many r
   pub bare : Framing (r .class) → Bare r

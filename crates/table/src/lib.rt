@@ -1,7 +1,10 @@
 // The table of record kinds, a row for each, as specs/Table.antt has it.
 ghost use mathlib.Core.Path.{_≡_};
+ghost use mathlib.Core.List.{map};
 ghost use Prim.Native.Nat.{_≤_};
-ghost use Rattle.table.specs.Table.{rowOf, wordsBy};
+ghost use Rattle.table.specs.Table.{rows, rowOf, piecesBy, lengthBy};
+ghost use Rattle.table.specs.Codes.{codeFor};
+ghost use Rattle.table.specs.Lines.{line, fieldFrom};
 ghost use Rattle.table.specs.Rule.{Ruled};
 use formula::Kind;
 
@@ -13,7 +16,7 @@ pub enum Class {
     Unknown,
 }
 
-// A count or a mode, of two bytes: where it stands in its record (0: nowhere), its range, and how many words there are
+// A count or a mode, of two bytes: where it stands in its record (0: nowhere), its range, and how many pieces there are
 // for each one of it.
 pub struct Field {
     pub at: usize,
@@ -22,156 +25,170 @@ pub struct Field {
     pub each: usize,
 }
 
-// A record of the kind has `head` bytes, then base + p.each * p + q.each * q words. A p that stands nowhere is the number
-// of words by the record's length; a q or a mode that stands nowhere is 0.
+// A record of the kind has `head` bytes, then base + p.each * p + q.each * q pieces of `width` bytes: a formula's words.
+// A p that stands nowhere is the number of pieces by the record's length; a q or a mode that stands nowhere is 0. The
+// count is a start's or an end's.
 pub struct Row {
     pub code: u16,
     pub class: Class,
     pub kind: Kind,
     pub head: usize,
+    pub width: usize,
     pub base: usize,
     pub p: Field,
     pub q: Field,
     pub mode: Field,
+    pub count: Field,
 }
 
-const NONE: Field = Field {
-    at: 0,
-    least: 0,
-    most: 0,
-    each: 0,
-};
+pub const START: u16 = 0x0001;
 
-const ROWS: [Row; 6] = [
-    Row {
-        code: 0x0001,
+pub const POLYNOMIAL: u16 = 0x0010;
+
+pub const RATIONAL: u16 = 0x0011;
+
+pub const FRACTION: u16 = 0x0012;
+
+pub const ROOT: u16 = 0x0013;
+
+pub const END: u16 = 0xffff;
+
+// A row as the table keeps it, its numbers side by side.
+struct Line {
+    code: u16,
+    class: Class,
+    kind: Kind,
+    numbers: [u16; 19],
+}
+
+// The numbers of a row: head, width, base; then at, least, most and each of p, of q, of the mode and of the count.
+const ROWS: [Line; 6] = [
+    Line {
+        code: START,
         class: Class::StartRecord,
         kind: Kind::NoFormula,
-        head: 8,
-        base: 0,
-        p: NONE,
-        q: NONE,
-        mode: NONE,
+        numbers: [8, 0, 0, 0, 0, 0, 0, 0, 0, 0, 0, 0, 0, 0, 0, 6, 1, 64, 0],
     },
-    Row {
-        code: 0x0010,
+    Line {
+        code: POLYNOMIAL,
         class: Class::FormulaRecord,
         kind: Kind::Polynomial,
-        head: 16,
-        base: 0,
-        p: Field {
-            at: 0,
-            least: 1,
-            most: 16,
-            each: 1,
-        },
-        q: NONE,
-        mode: NONE,
+        numbers: [16, 4, 0, 0, 1, 16, 1, 0, 0, 0, 0, 0, 0, 0, 0, 0, 0, 0, 0],
     },
-    Row {
-        code: 0x0011,
+    Line {
+        code: RATIONAL,
         class: Class::FormulaRecord,
         kind: Kind::Rational,
-        head: 20,
-        base: 0,
-        p: Field {
-            at: 16,
-            least: 1,
-            most: 12,
-            each: 1,
-        },
-        q: Field {
-            at: 18,
-            least: 1,
-            most: 12,
-            each: 1,
-        },
-        mode: NONE,
+        numbers: [20, 4, 0, 16, 1, 12, 1, 18, 1, 12, 1, 0, 0, 0, 0, 0, 0, 0, 0],
     },
-    Row {
-        code: 0x0012,
+    Line {
+        code: FRACTION,
         class: Class::FormulaRecord,
         kind: Kind::Fraction,
-        head: 20,
-        base: 1,
-        p: Field {
-            at: 18,
-            least: 1,
-            most: 12,
-            each: 2,
-        },
-        q: NONE,
-        mode: Field {
-            at: 16,
-            least: 0,
-            most: 2,
-            each: 0,
-        },
+        numbers: [20, 4, 1, 18, 1, 12, 2, 0, 0, 0, 0, 16, 0, 2, 0, 0, 0, 0, 0],
     },
-    Row {
-        code: 0x0013,
+    Line {
+        code: ROOT,
         class: Class::FormulaRecord,
         kind: Kind::Root,
-        head: 16,
-        base: 0,
-        p: NONE,
-        q: NONE,
-        mode: NONE,
+        numbers: [16, 4, 0, 0, 0, 0, 0, 0, 0, 0, 0, 0, 0, 0, 0, 0, 0, 0, 0],
     },
-    Row {
-        code: 0xffff,
+    Line {
+        code: END,
         class: Class::EndRecord,
         kind: Kind::NoFormula,
-        head: 8,
-        base: 0,
-        p: NONE,
-        q: NONE,
-        mode: NONE,
+        numbers: [8, 0, 0, 0, 0, 0, 0, 0, 0, 0, 0, 0, 0, 0, 0, 6, 1, 64, 0],
     },
 ];
 
 // The row of a code that the table has not.
-const UNKNOWN: Row = Row {
+const UNKNOWN: Line = Line {
     code: 0,
     class: Class::Unknown,
     kind: Kind::NoFormula,
-    head: 8,
-    base: 0,
-    p: NONE,
-    q: NONE,
-    mode: NONE,
+    numbers: [8, 0, 0, 0, 0, 0, 0, 0, 0, 0, 0, 0, 0, 0, 0, 0, 0, 0, 0],
 };
 
-// Row by row at known places, which the compiler turns into a choice between constants; with a running place it would
-// store the whole table for each record.
+fn all_lines() -> [Line; 6]
+    ensures { λ r. ⌜ r ≡ map line rows ⌝ }
+{
+    ROWS
+}
+
+// By the code's name: a choice between constants, and a constant where the code is one.
+fn line_of(code: u16) -> Line
+    ensures { λ r. ⌜ r ≡ line (rowOf code) ⌝ }
+{
+    let rows = all_lines();
+    match code {
+        START => rows[0],
+        POLYNOMIAL => rows[1],
+        RATIONAL => rows[2],
+        FRACTION => rows[3],
+        ROOT => rows[4],
+        END => rows[5],
+        _ => UNKNOWN,
+    }
+}
+
+// The field whose four numbers stand from k on.
+fn field_from(numbers: [u16; 19], k: usize) -> Field
+    requires { ⌜ k ≤ 15 ⌝ }
+    ensures { λ r. ⌜ r ≡ fieldFrom numbers k ⌝ }
+{
+    Field {
+        at: numbers[k] as usize,
+        least: numbers[k + 1],
+        most: numbers[k + 2],
+        each: numbers[k + 3] as usize,
+    }
+}
+
 pub fn row_of(code: u16) -> Row
     ensures { λ r. ⌜ r ≡ rowOf code ⌝ }
 {
-    let rows = ROWS;
-    if rows[0].code == code {
-        return rows[0];
+    let found = line_of(code);
+    let class = found.class;
+    let kind = found.kind;
+    let numbers = found.numbers;
+    Row {
+        code: found.code,
+        class,
+        kind,
+        head: numbers[0] as usize,
+        width: numbers[1] as usize,
+        base: numbers[2] as usize,
+        p: field_from(numbers, 3),
+        q: field_from(numbers, 7),
+        mode: field_from(numbers, 11),
+        count: field_from(numbers, 15),
     }
-    if rows[1].code == code {
-        return rows[1];
-    }
-    if rows[2].code == code {
-        return rows[2];
-    }
-    if rows[3].code == code {
-        return rows[3];
-    }
-    if rows[4].code == code {
-        return rows[4];
-    }
-    if rows[5].code == code {
-        return rows[5];
-    }
-    UNKNOWN
 }
 
-pub fn words_by(row: Row, p: u16, q: u16) -> usize
+// 0, which no row has, for a kind that is no formula.
+pub fn code_for(kind: Kind) -> u16
+    ensures { λ r. ⌜ r ≡ codeFor kind ⌝ }
+{
+    match kind {
+        Kind::Polynomial => POLYNOMIAL,
+        Kind::Rational => RATIONAL,
+        Kind::Fraction => FRACTION,
+        Kind::Root => ROOT,
+        Kind::NoFormula => 0,
+    }
+}
+
+// How many pieces a record of the row has for two counts in their ranges, and how many bytes.
+pub fn pieces_by(row: Row, p: u16, q: u16) -> usize
     requires { ⌜ Ruled row × (p ≤ row .p .most) × (q ≤ row .q .most) ⌝ }
-    ensures { λ r. ⌜ (r ≡ wordsBy row p q) × (r ≤ 32) ⌝ }
+    ensures { λ r. ⌜ (r ≡ piecesBy row p q) × (r ≤ 32) ⌝ }
 {
     row.base + row.p.each * (p as usize) + row.q.each * (q as usize)
+}
+
+pub fn length_by(row: Row, p: u16, q: u16) -> usize
+    requires { ⌜ Ruled row × (p ≤ row .p .most) × (q ≤ row .q .most) ⌝ }
+    ensures { λ r. ⌜ (r ≡ lengthBy row p q) × (r ≤ 120) ⌝ }
+{
+    row.head + row.width * pieces_by(row, p, q)
 }

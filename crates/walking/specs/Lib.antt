@@ -1,1 +1,2 @@
+-- The walk over a sheet or a run.
 pub mod Walking

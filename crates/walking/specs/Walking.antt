@@ -1,29 +1,65 @@
--- The walk over a sheet, record after record.
-use Prim.Native.Nat.{ℕ, zero, suc, _+_}
+-- The walk, record after record: over a sheet, or over a run of formula records that a sheet is to be put around. `from` is the place of the
+-- first byte in the sheet: 0 for a sheet, which ends with an end record; behind a start for a run, which ends with its last byte.
+-- The binary places are s.
+use Prim.Native.Nat.{ℕ, zero, suc, _+_, _-_}
 use mathlib.Core.List.{List}
-use mathlib.Core.Bool.{cond}
+use mathlib.Core.Bool.{cond, _&&_, not}
 use lib.Dec.{ltb, eqb}
 use lib.ListN.{length}
 use Rattle.table.specs.declared.Class.{Class}
 use Rattle.table.specs.declared.Class.the-variants.{StartRecord, FormulaRecord, EndRecord, Unknown}
 use Rattle.table.specs.declared.Row.{Row}
-use Rattle.layout.specs.Fields.{countOf, formulaNumber}
-use Rattle.records.specs.Guard.{guard, refusal}
-use Rattle.records.specs.Faults.{frameFault, bytesAt, rowFor, recordFault}
-use Rattle.records.specs.declared.walk.Walk.{Walk}
+use Rattle.layout.specs.Fields.{bytesAt, rowFor, countOf, formulaNumber}
+use Rattle.records.specs.Guard.{guard, orElse, refusal}
+use Rattle.records.specs.Faults.{frameFault, lengthFault, startFault, scaleFault, orderFault, endFault, innerFault}
+use Rattle.walking.specs.declared.Walk.{Walk}
 use Rattle.walking.specs.declared.Walked.{Walked}
 use Rattle.walking.specs.declared.Walked.the-variants.{Whole, Broken}
-use Rattle.walking.specs.declared.Step.{Step}
-use Rattle.walking.specs.declared.Step.the-variants.{More, Done}
 
 abbrev pub walk : ℕ → ℕ → ℕ → ℕ → ℕ → ℕ → Walk
 walk a c s n k f = record { at = a; count = c; seen = s; next = n; asked = k; found = f }
 
--- refusals 1 to 8 give the first byte of their record as the place
-abbrev pub refused : ℕ → ℕ → Step
-refused place number = Done (Broken (refusal place number))
+-- ---- where it begins. A run may have 64 records
+abbrev pub roomFor : ℕ → ℕ
+roomFor zero = 0
+roomFor (suc n) = 64
 
--- past a start, which stands at 0, and past a formula
+abbrev pub begin : ℕ → ℕ → Walk
+begin from asked = walk from (roomFor from) 0 0 asked 0
+
+-- ---- at each record: kind and place (3). The first record must be a start, no later one may be; an end may stand anywhere after the
+-- start, but not in a run
+abbrev pub placeFault : ℕ → Class → ℕ → ℕ
+placeFault from StartRecord at = cond (eqb at 0) 0 3
+placeFault from FormulaRecord at = cond (eqb at 0) 3 0
+placeFault from EndRecord at = cond (eqb at 0) 3 (cond (eqb from 0) 0 3)
+placeFault from Unknown at = 3
+
+-- what follows the exact length, by the record's class: 4, then the scale (6); 4, 5, 6, 7 or 8; 4
+abbrev pub classFault : ℕ → Class → Row → List ℕ → Walk → ℕ
+classFault s StartRecord r b w = orElse (startFault r (countOf b)) (scaleFault s)
+classFault s FormulaRecord r b w = orElse (orderFault (w .seen) (w .count) (w .next) (formulaNumber b)) (innerFault s r b)
+classFault s EndRecord r b w = endFault (w .seen) (w .count) (countOf b)
+classFault s Unknown r b w = 0
+
+-- kind and place (3); exact length (2); 4; 5; 6; 7 or 8
+unfoldable pub recordFault : ℕ → ℕ → Row → List ℕ → Walk → ℕ
+recordFault s from r b w =
+    orElse (placeFault from (r .class) (w .at))
+    (orElse (lengthFault r b)
+    (classFault s (r .class) r b w))
+
+-- the record at the walk's place
+abbrev pub recordHere : List ℕ → ℕ → Walk → List ℕ
+recordHere bytes from w = bytesAt bytes (w .at - from)
+
+-- before all that, its frame (1, 2, 1)
+unfoldable pub faultAt : ℕ → List ℕ → ℕ → Walk → ℕ
+faultAt s bytes from w =
+    orElse (frameFault bytes (w .at - from))
+    (recordFault s from (rowFor (recordHere bytes from w)) (recordHere bytes from w) w)
+
+-- ---- past a record without fault. A start stands at 0
 abbrev pub afterStart : List ℕ → Walk → Walk
 afterStart b w = walk (length b) (countOf b) 0 0 (w .asked) 0
 
@@ -39,35 +75,26 @@ afterFormula b w =
 unfoldable pub ending : Walk → ℕ → ℕ → Walked
 ending w place n = cond (ltb place n) (Broken (refusal place 9)) (Whole (w .count) (w .found))
 
--- a record without fault, by its class (an unknown one is never without)
-abbrev pub classStep : Class → List ℕ → Walk → ℕ → Step
-classStep StartRecord b w n = More (afterStart b w)
-classStep FormulaRecord b w n = More (afterFormula b w)
-classStep EndRecord b w n = Done (ending w (w .at + length b) n)
-classStep Unknown b w n = refused (w .at) 3
+-- by the class of the record (an unknown one is never without fault)
+abbrev pub onward : (Walk → Walked) → Class → List ℕ → Walk → ℕ → Walked
+onward next StartRecord b w n = next (afterStart b w)
+onward next FormulaRecord b w n = next (afterFormula b w)
+onward next EndRecord b w n = ending w (w .at + length b) n
+onward next Unknown b w n = Broken (refusal (w .at) 3)
 
--- a record's own bytes, in a sheet of n
-unfoldable pub recordStep : Row → List ℕ → Walk → ℕ → Step
-recordStep r b w n = guard (recordFault r b w) (refused (w .at)) (classStep (r .class) b w n)
+-- ---- the walk. A run is whole at its last byte, with as many formulas as were seen
+abbrev pub runDone : List ℕ → ℕ → Walk → Walked → Walked
+runDone bytes zero w next = next
+runDone bytes (suc n) w next = cond (eqb (w .at - suc n) (length bytes)) (Whole (w .seen) (w .found)) next
 
--- the record at the walk's place
-unfoldable pub stepOf : List ℕ → Walk → Step
-stepOf s w =
-    guard (frameFault s (w .at)) (refused (w .at))
-    (recordStep (rowFor (bytesAt s (w .at))) (bytesAt s (w .at)) w (length s))
-
-abbrev pub onStep : (Walk → Walked) → Step → Walked
-onStep k (More w) = k w
-onStep k (Done r) = r
-
--- n records at most; that there is one more is never met
-unfoldable pub walkFrom : ℕ → List ℕ → Walk → Walked
-walkFrom zero s w = Broken (refusal (w .at) 4)
-walkFrom (suc n) s w = onStep (walkFrom n s) (stepOf s w)
-
-abbrev pub begin : ℕ → Walk
-begin asked = walk 0 0 0 0 asked 0
+-- k records at most; that there is one more is never met. Refusals 1 to 8 give the first byte of their record as the place
+unfoldable pub walkFrom : ℕ → ℕ → List ℕ → ℕ → Walk → Walked
+walkFrom zero s bytes from w = Broken (refusal (w .at) 4)
+walkFrom (suc k) s bytes from w =
+    runDone bytes from w
+    (guard (faultAt s bytes from w) (λ fault. Broken (refusal (w .at) fault))
+    (onward (walkFrom k s bytes from) (rowFor (recordHere bytes from w) .class) (recordHere bytes from w) w (length bytes)))
 
 -- a start, 64 formulas and an end are 66 records
-unfoldable pub walkOf : List ℕ → ℕ → Walked
-walkOf s asked = walkFrom 66 s (begin asked)
+unfoldable pub walkOf : ℕ → List ℕ → ℕ → ℕ → Walked
+walkOf s bytes from asked = walkFrom 66 s bytes from (begin from asked)

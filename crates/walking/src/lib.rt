@@ -1,29 +1,54 @@
-// The walk over a sheet, record after record.
+// The walk over a sheet or a run, record after record, as specs/Walking.antt has it.
 ghost use mathlib.Core.Path.{_≡_};
 ghost use Prim.Native.Nat.{_+_, _<_, _≤_};
 ghost use lib.ListN.{length};
-ghost use Rattle.records.specs.Faults.{rowFor};
-ghost use Rattle.walking.specs.Walking.{refused, afterStart, foundBy, afterFormula, ending, recordStep, stepOf, walkOf};
-use layout::numbers;
-use records::faults;
-use records::refusal::Refusal;
-use records::walk::Walk;
-use table::Class;
+ghost use Rattle.records.specs.Guard.{refusal};
+ghost use Rattle.layout.specs.Fields.{rowFor};
+ghost use Rattle.walking.specs.Walking.{begin, afterStart, foundBy, afterFormula, ending, recordFault, faultAt, walkOf, Walkable, Standing};
+use layout::fields;
+use records::Refusal;
+use records::formulas;
+use records::framing;
+
+// Where the walk stands: the next record's place, the place of the record that is asked for (0: none yet), the number that is
+// asked for, the least number that the next formula may have, how many formulas there may be, and how many it has seen.
+pub struct Walk {
+    pub at: usize,
+    pub found: usize,
+    pub asked: u32,
+    pub next: u32,
+    pub count: u16,
+    pub seen: u16,
+}
 
 pub enum Walked {
     Whole { count: u16, found: usize },
     Broken(Refusal),
 }
 
-pub enum Step {
-    More(Walk),
-    Done(Walked),
+fn refused(place: usize, number: u8) -> Walked
+    ensures { λ r. ⌜ r ≡ Walked.Broken (refusal place number) ⌝ }
+{
+    Walked::Broken(Refusal { number, place })
 }
 
-fn refused(place: usize, number: u8) -> Step
-    ensures { λ r. ⌜ r ≡ refused place number ⌝ }
+fn room_for(from: usize) -> u16
+    ensures { λ r. ⌜ r ≡ roomFor from ⌝ }
 {
-    Step::Done(Walked::Broken(Refusal { number, place }))
+    if from == 0 { 0 } else { 64 }
+}
+
+fn begin(from: usize, asked: u32) -> Walk
+    ensures { λ r. ⌜ r ≡ begin from asked ⌝ }
+{
+    Walk {
+        at: from,
+        count: room_for(from),
+        seen: 0,
+        next: 0,
+        asked,
+        found: 0,
+    }
 }
 
 fn after_start(b: &[u8], w: Walk) -> Walk
@@ -32,7 +57,7 @@ fn after_start(b: &[u8], w: Walk) -> Walk
 {
     Walk {
         at: b.len(),
-        count: numbers::get2(b, 6),
+        count: fields::count(b),
         seen: 0,
         next: 0,
         asked: w.asked,
@@ -49,11 +74,11 @@ fn found_by(w: Walk, number: u32) -> usize
     w.found
 }
 
-pub fn after_formula(b: &[u8], w: Walk) -> Walk
-    requires { ⌜ (8 ≤ length (now b)) × (w .at + length (now b) < 9223372036854775808) × (w .seen < w .count) ⌝ }
+fn after_formula(b: &[u8], w: Walk) -> Walk
+    requires { ⌜ (8 ≤ length (now b)) × (w .at + length (now b) < 18446744073709551616) × (w .seen < 65535) ⌝ }
     ensures { λ r. ⌜ r ≡ afterFormula (now (b .entry)) w ⌝ }
 {
-    let number = numbers::get2(b, 6) as u32;
+    let number = fields::number(b) as u32;
     Walk {
         at: w.at + b.len(),
         count: w.count,
@@ -68,7 +93,7 @@ fn ending(w: Walk, place: usize, n: usize) -> Walked
     ensures { λ r. ⌜ r ≡ ending w place n ⌝ }
 {
     if place < n {
-        return Walked::Broken(Refusal { number: 9, place });
+        return refused(place, 9);
     }
     Walked::Whole {
         count: w.count,
@@ -76,58 +101,17 @@ fn ending(w: Walk, place: usize, n: usize) -> Walked
     }
 }
 
-fn record_step(b: &[u8], w: Walk, n: usize) -> Step
-    requires { ⌜ (8 ≤ length (now b)) × (length (now b) ≤ 120) × (w .at + length (now b) < 9223372036854775808) × (w .seen ≤ w .count) ⌝ }
-    ensures { λ r. ⌜ r ≡ recordStep (rowFor (now (b .entry))) (now (b .entry)) w n ⌝ }
+// A start: 3 anywhere but at 0; 2; 4; then 6 for the scale.
+fn start_fault(b: &[u8], at: usize, s: u32) -> u8
+    requires { ⌜ 8 ≤ length (now b) ⌝ }
+    ensures { λ r. ⌜ r ≡ orElse (placeFault 0 StartRecord at) (orElse (orElse (lengthFault (rowOf 0x0001) (now (b .entry))) (startFault (rowOf 0x0001) (countOf (now (b .entry))))) (scaleFault s)) ⌝ }
 {
-    let row = table::row_of(numbers::get2(b, 4));
-    let f = faults::record_fault(b, row, w);
+    if at != 0 {
+        return 3;
+    }
+    let f = framing::start_fault(b);
     if f != 0 {
-        return refused(w.at, f);
+        return f;
     }
-    let class = row.class;
-    match class {
-        Class::StartRecord => Step::More(after_start(b, w)),
-        Class::FormulaRecord => Step::More(after_formula(b, w)),
-        Class::EndRecord => Step::Done(ending(w, w.at + b.len(), n)),
-        Class::Unknown => refused(w.at, 3),
-    }
-}
-
-fn check_record(s: &[u8], w: Walk) -> Step
-    requires { ⌜ (w .at ≤ length (now s)) × (w .seen ≤ w .count) ⌝ }
-    ensures { λ r. ⌜ r ≡ stepOf (now (s .entry)) w ⌝ }
-{
-    let at = w.at;
-    let f = faults::frame_fault(s, at);
-    if f != 0 {
-        return refused(at, f);
-    }
-    let n = numbers::get4(s, at) as usize;
-    let e = at + n;
-    record_step(&s[at..e], w, s.len())
-}
-
-pub fn walk_over(s: &[u8], asked: u32) -> Walked
-    ensures { λ r. ⌜ r ≡ walkOf (now (s .entry)) asked ⌝ }
-{
-    let mut w = Walk {
-        at: 0,
-        count: 0,
-        seen: 0,
-        next: 0,
-        asked,
-        found: 0,
-    };
-    loop {
-        let t = check_record(s, w);
-        match t {
-            Step::More(v) => {
-                w = v;
-            }
-            Step::Done(r) => {
-                return r;
-            }
-        }
-    }
+    records::scale_fault(s)
 }

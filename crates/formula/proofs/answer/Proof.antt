@@ -1,80 +1,124 @@
--- `formula::answer` meets its contract: each kind's own answer.
+-- `formula::answer` meets its contract: each kind's own answer, over as many words as the kind has.
 use borrow.Author.Needs.{needs}
-use mathlib.Core.Path.{_≡_, sym, ap₂, _∙_, subst}
+use mathlib.Core.Path.{_≡_, sym, ap, ap₂, _∙_, subst}
+use mathlib.Core.List.{List}
+use Prim.Native.Nat.{ℕ, _+_, _*_}
 use lib.IntN.{ℤ}
 use lib.ListN.{take, drop}
 use mir.Syntax.{w32}
 use Rattle.whole.proofs.Held.{back, held, arg, given}
 use Rattle.word.specs.Words.{Rootable}
-use Rattle.polynomial.specs.Polynomial.{PolynomialReady}
-use Rattle.rational.specs.Rational.{RationalReady}
+use Rattle.stored.specs.Words.{words, Stretch}
+use Rattle.stored.proofs.WordsLaws.{words-all, words-take, words-drop}
+use Rattle.polynomial.specs.Polynomial.{horner, PolynomialReady}
+use Rattle.rational.specs.Rational.{rationalOf, RationalReady}
 use Rattle.fraction.specs.Ready.{FractionReady}
-use Rattle.formula.specs.Formula.{answerBy, answerOf}
+use Rattle.formula.specs.Formula.{answerBy, answerOf, wordCount, storedWords}
 use Rattle.formula.specs.declared.Kind.{Kind}
 use Rattle.formula.specs.declared.Kind.the-variants.{Polynomial, Rational, Fraction, Root, NoFormula}
-use Rattle.formula.proofs.SoundLaws.{room-at}
 use Rattle.formula.proofs.ReadyLaws.{polynomial-ready, rational-ready, fraction-ready, root-ready}
 use Rattle.formula.proofs.answer.Statement.{statement}
 use Rattle.formula.proofs.answer.Tie as tie
 
 module _ (d : tie.Start) where
+  abbrev bytes : List ℕ
+  bytes = d .args .b .now
+
+  abbrev place : ℕ
+  place = d .args .at
+
+  abbrev first : ℕ
+  first = d .args .shape .p
+
+  abbrev second : ℕ
+  second = d .args .shape .q
+
+  abbrev ws : List ℤ
+  ws = storedWords (d .args .shape) bytes place
+
   x-is : back w32 (d .args .x) ≡ d .args .x
   x-is = held (arg (d .fits .x))
 
+  -- as many words as the kind has
+  reach : (k : Kind) → d .args .shape .kind ≡ k → Stretch bytes place (wordCount k first second)
+  reach k e = subst (λ (j : Kind). Stretch bytes place (wordCount j first second)) e (d .pre .0)
+
+  ws-is : (k : Kind) → d .args .shape .kind ≡ k → ws ≡ words bytes place (wordCount k first second)
+  ws-is k e = ap (λ (j : Kind). words bytes place (wordCount j first second)) e
+
+  -- a rational's two lists, and a polynomial's one
+  one-list : d .args .shape .kind ≡ Polynomial → take first ws ≡ words bytes place first
+  one-list e = ap (take first) (ws-is Polynomial e) ∙ words-all bytes place first
+
+  top : d .args .shape .kind ≡ Rational → take first ws ≡ words bytes place first
+  top e = ap (take first) (ws-is Rational e) ∙ words-take bytes place first second
+
+  bottom : d .args .shape .kind ≡ Rational → take second (drop first ws) ≡ words bytes (place + 4 * first) second
+  bottom e = ap (λ (l : List ℤ). take second (drop first l)) (ws-is Rational e) ∙ ap (take second) (words-drop bytes place first second) ∙ words-all bytes (place + 4 * first) second
+
   -- the answer of a kind, at the argument as it is read, is the answer of the whole
-  whole : (k : Kind) → d .args .shape .kind ≡ k → answerBy k (d .args .s) (d .args .shape .p) (d .args .shape .q) (d .args .shape .mode) (d .args .words .now) (back w32 (d .args .x)) ≡ answerOf (d .args .s) (d .args .shape) (d .args .words .now) (d .args .x)
-  whole k e =
-      let h = d .args .shape in
-      ap₂ (λ (j : Kind) (x : ℤ). answerBy j (d .args .s) (h .p) (h .q) (h .mode) (d .args .words .now) x) (sym e) x-is
-
-answer-polynomial-requires : tie.Need-answer-polynomial-requires
-answer-polynomial-requires c κs =
-    let d = c .before .before .before .before in
-    let a = d .args in
-    let e = c .before .enum-told .given .1 in
-    (room-at (a .shape) (d .pre .lo) (d .pre .hi) (a .words .now) (d .pre .sound) Polynomial e, subst (PolynomialReady (a .s) (take (a .shape .p) (a .words .now))) (sym (x-is d)) (polynomial-ready (a .s) (a .shape) (a .words .now) (a .x) (d .pre) e))
-
-answer-rational-requires : tie.Need-answer-rational-requires
-answer-rational-requires c κs =
-    let d = c .before .before .before .before .before in
-    let a = d .args in
-    let e = c .before .before .enum-told2 .given .1 in
-    (room-at (a .shape) (d .pre .lo) (d .pre .hi) (a .words .now) (d .pre .sound) Rational e, subst (RationalReady (a .s) (take (a .shape .p) (a .words .now)) (take (a .shape .q) (drop (a .shape .p) (a .words .now)))) (sym (x-is d)) (rational-ready (a .s) (a .shape) (a .words .now) (a .x) (d .pre) e))
+  whole : (k : Kind) → d .args .shape .kind ≡ k → answerBy k (d .args .s) first second (d .args .shape .mode) ws (back w32 (d .args .x)) ≡ answerOf (d .args .s) (d .args .shape) ws (d .args .x)
+  whole k e = ap₂ (λ (j : Kind) (x : ℤ). answerBy j (d .args .s) first second (d .args .shape .mode) ws x) (sym e) x-is
 
 answer-requires : tie.Need-answer-requires
 answer-requires c κs =
     let d = c .before .before .before .before in
     let a = d .args in
-    subst (FractionReady (a .s) (a .shape .mode) (a .words .now) (a .shape .p)) (sym (x-is d)) (fraction-ready (a .s) (a .shape) (a .words .now) (a .x) (d .pre) (c .before .enum-told3 .given .1))
+    let e = c .enum-told .given .1 in
+    (reach d Polynomial e, subst (λ (l : List ℤ). PolynomialReady (a .s) l (back w32 (a .x))) (one-list d e) (subst (PolynomialReady (a .s) (take (first d) (ws d))) (sym (x-is d)) (polynomial-ready (a .s) (a .shape) (ws d) (a .x) (d .pre .1) e)))
+
+answer-requires-2 : tie.Need-answer-requires-2
+answer-requires-2 c κs =
+    let d = c .before .before .before .before .before in
+    let a = d .args in
+    let e = c .before .enum-told2 .given .1 in (
+      reach d Rational e,
+      subst (λ (l : List ℤ). RationalReady (a .s) l (words (bytes d) (place d + 4 * first d) (second d)) (back w32 (a .x))) (top d e)
+          (subst (λ (l : List ℤ). RationalReady (a .s) (take (first d) (ws d)) l (back w32 (a .x))) (bottom d e)
+          (subst (RationalReady (a .s) (take (first d) (ws d)) (take (second d) (drop (first d) (ws d)))) (sym (x-is d)) (rational-ready (a .s) (a .shape) (ws d) (a .x) (d .pre .1) e))),
+    )
+
+answer-requires-3 : tie.Need-answer-requires-3
+answer-requires-3 c κs =
+    let d = c .before .before .before .before .before in
+    let a = d .args in
+    let e = c .before .enum-told3 .given .1 in
+    (reach d Fraction e, subst (λ (l : List ℤ). FractionReady (a .s) (a .shape .mode) l (first d) (back w32 (a .x))) (ws-is d Fraction e) (subst (FractionReady (a .s) (a .shape .mode) (ws d) (first d)) (sym (x-is d)) (fraction-ready (a .s) (a .shape) (ws d) (a .x) (d .pre .1) e)))
 
 root-requires : tie.Need-root-requires
 root-requires c κs =
-    let d = c .before .before .before in
+    let d = c .before .before .before .before in
     let a = d .args in
-    subst (Rootable (a .s)) (sym (x-is d)) (root-ready (a .s) (a .shape) (a .words .now) (a .x) (d .pre) (c .enum-told4 .given .1))
+    subst (Rootable (a .s)) (sym (x-is d)) (root-ready (a .s) (a .shape) (ws d) (a .x) (d .pre .1) (c .enum-told4 .given .1))
 
 returns : tie.Need-returns
 returns c =
-    let b = c .before .before in
-    held (given {w = w32} (c .answer-polynomial .ok)) ∙ c .answer-polynomial .ensures ∙ whole (b .before .before .before) Polynomial (b .enum-told .given .1)
+    let b = c .before in
+    let d = b .before .before .before .before in
+    let e = b .enum-told .given .1 in
+    held (given {w = w32} (c .answer .ok)) ∙ c .answer .ensures ∙ ap (λ (l : List ℤ). horner (d .args .s) l (back w32 (d .args .x))) (sym (one-list d e)) ∙ whole d Polynomial e
 
 returns-2 : tie.Need-returns-2
 returns-2 c =
-    let b = c .before .before .before in
-    held (given {w = w32} (c .answer-rational .ok)) ∙ c .answer-rational .ensures ∙ whole (b .before .before .before) Rational (b .enum-told2 .given .1)
+    let b = c .before .before in
+    let d = b .before .before .before .before in
+    let e = b .enum-told2 .given .1 in
+    held (given {w = w32} (c .answer2 .ok)) ∙ c .answer2 .ensures ∙ ap₂ (λ (l m : List ℤ). rationalOf (d .args .s) l m (back w32 (d .args .x))) (sym (top d e)) (sym (bottom d e)) ∙ whole d Rational e
 
 returns-3 : tie.Need-returns-3
 returns-3 c =
     let b = c .before .before in
-    held (given {w = w32} (c .answer .ok)) ∙ c .answer .ensures ∙ whole (b .before .before .before) Fraction (b .enum-told3 .given .1)
+    let d = b .before .before .before .before in
+    let e = b .enum-told3 .given .1 in
+    held (given {w = w32} (c .answer3 .ok)) ∙ c .answer3 .ensures ∙ ap (λ (l : List ℤ). answerBy Fraction (d .args .s) (first d) (second d) (d .args .shape .mode) l (back w32 (d .args .x))) (sym (ws-is d Fraction e)) ∙ whole d Fraction e
 
 returns-4 : tie.Need-returns-4
 returns-4 c =
     let b = c .before in
-    held (given {w = w32} (c .root .ok)) ∙ c .root .ensures ∙ whole (b .before .before .before) Root (b .enum-told4 .given .1)
+    held (given {w = w32} (c .root .ok)) ∙ c .root .ensures ∙ whole (b .before .before .before .before) Root (b .enum-told4 .given .1)
 
 returns-5 : tie.Need-returns-5
-returns-5 c = whole (c .before .before .before) NoFormula (c .enum-told5 .given .1)
+returns-5 c = whole (c .before .before .before .before) NoFormula (c .enum-told5 .given .1)
 
 pub answer-spec : {M : Type 1} → statement M
 answer-spec =
@@ -82,13 +126,13 @@ answer-spec =
     (tie.spec
     (λ c. search needs)
     (λ c. search needs)
-    answer-polynomial-requires
-    (λ c. search needs)
-    (λ c. search needs)
-    answer-rational-requires
-    (λ c. search needs)
-    (λ c. search needs)
     answer-requires
+    (λ c. search needs)
+    (λ c. search needs)
+    answer-requires-2
+    (λ c. search needs)
+    (λ c. search needs)
+    answer-requires-3
     (λ c. search needs)
     root-requires
     (λ c. search needs)

@@ -1,8 +1,9 @@
--- `fraction::admit_inner` meets its contract. The invariant: the whole answer is the answer from depth j on.
+-- `fraction::admit_inner` meets its contract. The invariant: the whole answer is the answer from depth j on, what stands there is
+-- apart from 0, and every number from b_j on is a word; so where it admits, all are.
 use borrow.Author.Needs.{needs}
 use mathlib.Core.Path.{_≡_, sym, ap, ap₂, _∙_, subst}
 use mathlib.Core.List.{List}
-use Prim.Native.Nat.{ℕ, _+_, _*_, _-_, _<_, _≤_}
+use Prim.Native.Nat.{ℕ, suc, _+_, _*_, _-_, _<_, _≤_}
 use native.Mathlib.Omega.{arith}
 use lib.IntN.{ℤ, pos, natAbs}
 use lib.ListN.{getD}
@@ -10,17 +11,27 @@ use mir.Syntax.{w32}
 use Rattle.whole.proofs.Held.{back, held, held-nat, given}
 use Rattle.word.specs.Words.{Word}
 use Rattle.stored.specs.Words.{words}
+use Rattle.stored.proofs.WordsLaws.{length-words}
+use Rattle.admission.specs.Admission.{Judged}
+use Rattle.admission.specs.Lists.{Words}
+use Rattle.admission.specs.declared.Admission.{Admission}
+use Rattle.admission.specs.declared.Admission.the-variants.{Admitted, RangeLeft}
+use Rattle.admission.proofs.AdmissionLaws.{left-not, zero-not}
 use Rattle.fraction.specs.Fraction.{bAt, aAfter, at}
-use Rattle.fraction.specs.Admission.{admitFrom, admitInner, termBound}
+use Rattle.fraction.specs.Admission.{admitFrom, admitInner, judgedTerm}
 use Rattle.fraction.specs.declared.TermBound.{TermBound}
 use Rattle.fraction.specs.declared.TermBound.the-variants.{Least, Beyond}
 use Rattle.fraction.proofs.WalkLaws.{b-is, a-is}
-use Rattle.fraction.proofs.AdmissionSteps.{afterTerm, walk-done, walk-zero, walk-step}
+use Rattle.fraction.proofs.AdmissionSteps.{afterTerm, walk-done, walk-zero, walk-step, judged-is, judged-least, WordsFrom, none-behind, two-more}
 use Rattle.fraction.proofs.admit_inner.Statement.{statement}
 use Rattle.fraction.proofs.admit_inner.Tie as tie
 
 abbrev Inv-loop : tie.InvT-loop
-Inv-loop b at k first rest s j₀ l₀ j l = (j ≤ k) × (admitInner s first rest (words b at (k + k + 1)) k ≡ admitFrom s first rest (words b at (k + k + 1)) j l)
+Inv-loop b at k first rest s j₀ l₀ j l =
+    (j ≤ k)
+    × (admitInner s first rest (words b at (k + k + 1)) k ≡ admitFrom s first rest (words b at (k + k + 1)) j l)
+    × (0 < l)
+    × WordsFrom (words b at (k + k + 1)) (j + j)
 
 abbrev μ-loop : tie.MeasureT-loop
 μ-loop b at k first rest s j₀ l₀ j l = j
@@ -28,19 +39,57 @@ abbrev μ-loop : tie.MeasureT-loop
 abbrev ws : tie.Start Inv-loop μ-loop → List ℤ
 ws d = words (d .args .b .now) (d .args .at) (d .args .k + d .args .k + 1)
 
+-- the innermost number's size
+size-is : (m : tie.After-magnitude Inv-loop μ-loop) →
+    let d = m .before .before .before in
+    m .magnitude .result ≡ natAbs (bAt (ws d) (d .args .k))
+size-is m =
+    let d = m .before .before .before in
+    let g = m .before .get-word in
+    let k = d .args .k in
+    m .magnitude .ensures ∙ held-nat (given {w = w32} {x = g .result} (g .ok)) ∙ ap natAbs (g .ensures ∙ b-is (d .args .b .now) (d .args .at) (k + k + 1) k (omega arith))
+
+returns : tie.Need-returns Inv-loop μ-loop
+returns c =
+    let d = c .before .before .before .before in
+    record { words = λ e. absurd (left-not e); same = λ h. absurd (let w = h (d .args .k + d .args .k) in omega (arith, size-is (c .before), c .if1 .taken)) }
+
+returns-2 : tie.Need-returns-2 Inv-loop μ-loop
+returns-2 c =
+    let d = c .before .before .before .before .before in
+    let a = d .args in
+    record {
+      words = λ e. absurd (zero-not e);
+      same = λ h. walk-zero (a .s) (a .first) (a .rest) (ws d) (a .k) (natAbs (bAt (ws d) (a .k))) (a .k - 1) (omega (arith, d .pre .1 .1)) (sym (size-is (c .before .before)) ∙ c .if2 .taken);
+    }
+
+loop-holds : tie.Need-loop-holds Inv-loop μ-loop
+loop-holds c =
+    let m = c .before .before in
+    let d = m .before .before .before in
+    let k = d .args .k in (
+      omega arith,
+      ap (admitFrom (d .args .s) (d .args .first) (d .args .rest) (ws d) k) (sym (size-is m)),
+      omega (arith, c .if2 .left),
+      none-behind (ws d) (k + k) (length-words (d .args .b .now) (d .args .at) (k + k + 1)) (omega (arith, size-is m, c .before .if1 .left)),
+    )
+
 -- ---- the words of one term, as they are read
 module _ (c : tie.After-factor-bound Inv-loop μ-loop) where
+  abbrev loop : tie.In-loop Inv-loop μ-loop
+  loop = c .before .before .before
+
   abbrev start : tie.Start Inv-loop μ-loop
-  start = c .before .before .before .before .before .before .before .before .before
+  start = loop .before .before .before .before .before .before .before
 
   abbrev j : ℕ
-  j = c .before .before .before .before .before .loop .j
+  j = loop .before .loop .j
 
   abbrev l : ℕ
-  l = c .before .before .before .before .before .loop .l
+  l = loop .before .loop .l
 
   inside : j - 1 < start .args .k
-  inside = omega (arith, c .before .before .before .before .loop-test .taken, c .before .before .before .before .before .loop .inv .0)
+  inside = omega (arith, loop .loop-test .taken, loop .before .loop .inv .0)
 
   a-read : back w32 (c .before .before .get-word2 .result) ≡ aAfter (ws start) (j - 1)
   a-read = held (given {w = w32} {x = c .before .before .get-word2 .result} (c .before .before .get-word2 .ok)) ∙ c .before .before .get-word2 .ensures ∙ a-is (start .args .b .now) (start .args .at) (start .args .k + start .args .k + 1) (j - 1) (omega (arith, inside))
@@ -48,7 +97,10 @@ module _ (c : tie.After-factor-bound Inv-loop μ-loop) where
   b-read : back w32 (c .before .get-word3 .result) ≡ bAt (ws start) (j - 1)
   b-read = held (given {w = w32} {x = c .before .get-word3 .result} (c .before .get-word3 .ok)) ∙ c .before .get-word3 .ensures ∙ b-is (start .args .b .now) (start .args .at) (start .args .k + start .args .k + 1) (j - 1) (omega (arith, inside))
 
--- ---- after a term's bound: it is that of the stored words
+term-bound-requires : tie.Need-term-bound-requires Inv-loop μ-loop
+term-bound-requires c κs = (start c .pre .1 .0, loop c .before .loop .inv .2)
+
+-- ---- after a term's bound: it is that of the stored numbers
 module _ (c : tie.After-term-bound Inv-loop μ-loop) where
   abbrev term : tie.After-factor-bound Inv-loop μ-loop
   term = c .before
@@ -56,52 +108,75 @@ module _ (c : tie.After-term-bound Inv-loop μ-loop) where
   abbrev d : tie.Start Inv-loop μ-loop
   d = start term
 
-  bound-is : c .term-bound .result ≡ termBound (d .args .s) (aAfter (ws d) (j term - 1)) (bAt (ws d) (j term - 1)) (at (d .args .first) (d .args .rest) (j term - 1)) (l term)
+  abbrev i : ℕ
+  i = j term - 1
+
+  abbrev factor : ℕ
+  factor = at (d .args .first) (d .args .rest) i
+
+  bound-is : c .term-bound .result ≡ judgedTerm (d .args .s) (aAfter (ws d) i) (bAt (ws d) i) factor (l term)
   bound-is =
       c .term-bound .ensures
-      ∙ ap₂ (λ (x y : ℤ). termBound (d .args .s) x y (term .factor-bound .result) (l term)) (a-read term) (b-read term)
-      ∙ ap (λ (v : ℕ). termBound (d .args .s) (aAfter (ws d) (j term - 1)) (bAt (ws d) (j term - 1)) v (l term)) (term .factor-bound .ensures)
+      ∙ ap₂ (λ (x y : ℤ). judgedTerm (d .args .s) x y (term .factor-bound .result) (l term)) (a-read term) (b-read term)
+      ∙ ap (λ (v : ℕ). judgedTerm (d .args .s) (aAfter (ws d) i) (bAt (ws d) i) v (l term)) (term .factor-bound .ensures)
 
-  -- the answer from depth j on, by what the bound is
-  step : (r : TermBound) → c .term-bound .result ≡ r → admitInner (d .args .s) (d .args .first) (d .args .rest) (ws d) (d .args .k) ≡ afterTerm (d .args .s) (d .args .first) (d .args .rest) (ws d) (j term - 1) r
-  step r e =
-      term .before .before .before .before .before .loop .inv .1
-      ∙ walk-step (d .args .s) (d .args .first) (d .args .rest) (ws d) (j term) (l term) (j term - 1) (omega (arith, term .before .before .before .before .loop-test .taken)) (omega (arith, term .before .before .before .if1 .left)) r (sym e ∙ bound-is)
+  -- the answer from depth j on, by what the bound of a word is
+  step : Word (aAfter (ws d) i) → (r : TermBound) → c .term-bound .result ≡ r → admitInner (d .args .s) (d .args .first) (d .args .rest) (ws d) (d .args .k) ≡ afterTerm (d .args .s) (d .args .first) (d .args .rest) (ws d) i r
+  step h r e =
+      loop term .before .loop .inv .1
+      ∙ walk-step (d .args .s) (d .args .first) (d .args .rest) (ws d) (j term) (l term) i (omega (arith, loop term .loop-test .taken)) (loop term .before .loop .inv .2) r
+      (sym e ∙ bound-is ∙ judged-is (d .args .s) (aAfter (ws d) i) (bAt (ws d) i) factor (l term) h)
 
-loop-holds : tie.Need-loop-holds Inv-loop μ-loop
-loop-holds c =
-    let d = c .before .before .before in
-    let g = c .before .get-word in
-    let k = d .args .k in
-    (omega arith, ap (admitFrom (d .args .s) (d .args .first) (d .args .rest) (ws d) k) (sym (c .magnitude .ensures ∙ held-nat (given {w = w32} {x = g .result} (g .ok)) ∙ ap natAbs (g .ensures ∙ b-is (d .args .b .now) (d .args .at) (k + k + 1) k (omega arith)))))
+  -- where something is left: words, and the walk goes on from there
+  module _ (least : ℕ) (e : c .term-bound .result ≡ Least least) where
+    both : Word (aAfter (ws d) i) × Word (bAt (ws d) i)
+    both = judged-least (d .args .s) (aAfter (ws d) i) (bAt (ws d) i) factor (l term) least (sym bound-is ∙ e)
 
-returns : tie.Need-returns Inv-loop μ-loop
-returns c =
-    let l = c .before .before .loop in
-    let d = c .before .before .before .before .before .before in
-    let a = d .args in
-    walk-zero (a .s) (a .first) (a .rest) (ws d) (l .j) (l .l) (l .j - 1) (omega (arith, c .before .loop-test .taken)) (c .if1 .taken) ∙ sym (l .inv .1)
+    on : admitInner (d .args .s) (d .args .first) (d .args .rest) (ws d) (d .args .k) ≡ admitFrom (d .args .s) (d .args .first) (d .args .rest) (ws d) i least
+    on = step (both .0) (Least least) e
 
-term-bound-requires : tie.Need-term-bound-requires Inv-loop μ-loop
-term-bound-requires c κs =
-    let d = start c in
-    let i = j c - 1 in
-    (d .pre .1 .0, subst Word (sym (a-read c)) (d .pre .1 .1 (i + i + 1)), subst Word (sym (b-read c)) (d .pre .1 .1 (i + i)), omega (arith, c .before .before .before .if1 .left))
-
-returns-2 : tie.Need-returns-2 Inv-loop μ-loop
-returns-2 c = sym (step (c .before .before) Beyond (c .enum-told .given .1))
-
-loop-again : tie.Need-loop-again Inv-loop μ-loop
-loop-again c =
-    let b = c .before .before .before in
-    (omega (arith, inside (b .before)), step b (Least (c .before .bound .given .0 .0)) (c .before .bound .given .1))
+    words-on : WordsFrom (ws d) (i + i)
+    words-on =
+        let n : j term ≡ suc i = omega (arith, loop term .loop-test .taken) in
+        two-more (ws d) i (both .0) (both .1) (subst (λ (k : ℕ). WordsFrom (ws d) (k + k)) n (loop term .before .loop .inv .3))
 
 returns-3 : tie.Need-returns-3 Inv-loop μ-loop
 returns-3 c =
-    let l = c .before .loop in
-    let d = c .before .before .before .before .before in
-    let a = d .args in
-    walk-done (a .s) (a .first) (a .rest) (ws d) (l .j) (l .l) (omega (arith, c .loop-test .left)) ∙ sym (l .inv .1)
+    let b = c .before .before in
+    record { words = λ e. absurd (left-not e); same = λ h. sym (step b (h (i b + i b + 1)) Beyond (c .enum-told .given .1)) }
+
+-- at depth 0 all numbers are words, and nothing is divided by what stands there
+admitted : (d : tie.Start Inv-loop μ-loop) (j l : ℕ) → j ≡ 0
+    → admitInner (d .args .s) (d .args .first) (d .args .rest) (ws d) (d .args .k) ≡ admitFrom (d .args .s) (d .args .first) (d .args .rest) (ws d) j l → WordsFrom (ws d) (j + j)
+    → Judged (ws d) (admitInner (d .args .s) (d .args .first) (d .args .rest) (ws d) (d .args .k)) Admitted
+admitted d j l z e h = record { words = λ q n. h n (omega arith); same = λ q. walk-done (d .args .s) (d .args .first) (d .args .rest) (ws d) j l z ∙ sym e }
+
+returns-4 : tie.Need-returns-4 Inv-loop μ-loop
+returns-4 c =
+    let b = c .before .before .before .before .before in
+    let g = c .before .before .before .bound .given in
+    admitted (d b) (i b) (g .0 .0) (c .if4 .taken) (on b (g .0 .0) (g .1)) (words-on b (g .0 .0) (g .1))
+
+returns-5 : tie.Need-returns-5 Inv-loop μ-loop
+returns-5 c =
+    let b = c .before .before .before .before .before in
+    let a = d b .args in
+    let g = c .before .before .before .bound .given in
+    record {
+      words = λ e. absurd (zero-not e);
+      same = λ h. walk-zero (a .s) (a .first) (a .rest) (ws (d b)) (i b) (g .0 .0) (i b - 1) (omega (arith, c .if4 .left)) (c .before .if3 .taken) ∙ sym (on b (g .0 .0) (g .1));
+    }
+
+loop-again : tie.Need-loop-again Inv-loop μ-loop
+loop-again c =
+    let b = c .before .before .before .before in
+    let g = c .before .before .bound .given in
+    (omega (arith, inside (b .before)), on b (g .0 .0) (g .1), omega (arith, c .if3 .left), words-on b (g .0 .0) (g .1))
+
+returns-6 : tie.Need-returns-6 Inv-loop μ-loop
+returns-6 c =
+    let k = c .before .loop in
+    admitted (c .before .before .before .before .before .before .before) (k .j) (k .l) (omega (arith, c .loop-test .left)) (k .inv .1) (k .inv .3)
 
 pub admit-inner-spec : {M : Type 1} → statement M
 admit-inner-spec =
@@ -113,8 +188,9 @@ admit-inner-spec =
     (λ c. search needs)
     (λ c κs. search needs)
     (λ c κs. search needs)
-    loop-holds
     returns
+    returns-2
+    loop-holds
     (λ c. search needs)
     (λ c. search needs)
     (λ c. search needs)
@@ -125,7 +201,9 @@ admit-inner-spec =
     term-bound-requires
     (λ c. search needs)
     (λ c. search needs)
-    returns-2
+    returns-3
+    returns-4
+    returns-5
     (λ c. search needs)
     loop-again
-    returns-3)
+    returns-6)

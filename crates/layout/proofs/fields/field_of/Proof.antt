@@ -1,3 +1,4 @@
+-- `layout::fields::field_of` meets its contract: where the field stands nowhere, and where it is read.
 use borrow.Author.Needs.{needs}
 use borrow.Author.Tests.{eq-eqb, ne-eqb}
 use Rattle.layout.specs.Fields.{fieldOf}

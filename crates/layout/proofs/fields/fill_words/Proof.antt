@@ -1,9 +1,11 @@
+-- `layout::fields::fill_words` meets its contract. The invariant: the array holds the words read so far, and zeros behind them.
 use borrow.Author.Needs.{needs}
 use mathlib.Core.Path.{_≡_}
 use Prim.Native.Nat.{_≤_, _-_}
 use native.Mathlib.Omega.{arith}
-use Rattle.layout.specs.Fields.{words, padded}
-use Rattle.layout.proofs.Back.{back}
+use Rattle.stored.specs.Words.{words}
+use Rattle.stored.proofs.Back.{back}
+use Rattle.layout.specs.Fields.{padded}
 use Rattle.layout.proofs.Padded.{turn}
 use Rattle.layout.proofs.fields.fill_words.Statement.{statement}
 use Rattle.layout.proofs.fields.fill_words.Tie as tie

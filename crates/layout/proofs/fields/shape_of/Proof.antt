@@ -1,3 +1,4 @@
+-- `layout::fields::shape_of` meets its contract, field by field.
 use borrow.Author.Needs.{needs}
 use Rattle.layout.specs.Fields.{shape, shapeOf}
 use Rattle.layout.proofs.fields.shape_of.Statement.{statement}

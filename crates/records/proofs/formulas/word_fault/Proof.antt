@@ -1,0 +1,15 @@
+-- `records::formulas::word_fault` meets its contract: below the least word is no word.
+use mathlib.Core.Path.{_∙_, sym}
+use mir.Facts.{toZ-ofZ}
+use Rattle.records.proofs.Values.{no-word}
+use Rattle.records.proofs.formulas.word_fault.Statement.{statement}
+use Rattle.records.proofs.formulas.word_fault.Tie as tie
+
+returns : tie.Need-returns
+returns c = let f = c .before .fits .x in simp (sym (no-word _ f) ∙ rw (toZ-ofZ f) at (c .if1 .taken))
+
+returns-2 : tie.Need-returns-2
+returns-2 c = let f = c .before .fits .x in simp (sym (no-word _ f) ∙ rw (toZ-ofZ f) at (c .if1 .left))
+
+pub word-fault-spec : {M : Type 1} → statement M
+word-fault-spec = tie.close (tie.spec returns returns-2)

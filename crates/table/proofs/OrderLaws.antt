@@ -1,0 +1,70 @@
+-- The order of a formula's fields and what its bytes tell of them, each by a test that is computed over the table's rows.
+use mathlib.Core.Path.{_≡_, refl, ap, sym, subst, _∙_}
+use mathlib.Core.Logic.{_⊎_, inl, inr}
+use mathlib.Core.Bool.{Bool, true, false, cond, _&&_, _||_}
+use Prim.Native.Nat.{ℕ, _+_, _*_, _≤_}
+use native.Mathlib.Omega.{arith}
+use lib.Dec.{T, eqb, ltb, eqb→eq, ltb→lt}
+use borrow.Author.Tests.{eq-eqb}
+use Rattle.table.specs.Table.{rows, rowOf, piecesBy}
+use Rattle.table.specs.Order.{fieldSize, Stands, Ordered, Told}
+use Rattle.table.specs.declared.Class.the-variants.{FormulaRecord}
+use Rattle.table.specs.declared.Field.{Field}
+use Rattle.table.specs.declared.Row.{Row}
+use Rattle.table.proofs.Tested.{both, tested, below, of-class}
+
+either : (a b : Bool) → T (a || b) → T a ⊎ T b
+either true b t = inl tt
+either false b t = inr t
+
+abbrev stands : Field → ℕ → Bool
+stands f place = eqb (f .at) 0 || eqb (f .at) place
+
+standing : (f : Field) (place : ℕ) → T (stands f place) → Stands f place
+standing f place t = by (either (eqb (f .at) 0) (eqb (f .at) place) t)
+  where
+    by : T (eqb (f .at) 0) ⊎ T (eqb (f .at) place) → Stands f place
+    by (inl a) = inl (eqb→eq _ _ a)
+    by (inr a) = inr (eqb→eq _ _ a)
+
+pub ordered : (c : ℕ) → rowOf c .class ≡ FormulaRecord → Ordered (rowOf c)
+unfolding rows
+ordered c e =
+    record {
+      mode = standing (rowOf c .mode) _ (of-class FormulaRecord (λ r. stands (r .mode) 16) tt c e);
+      p = standing (rowOf c .p) _ (of-class FormulaRecord (λ r. stands (r .p) (16 + fieldSize (r .mode))) tt c e);
+      q = standing (rowOf c .q) _ (of-class FormulaRecord (λ r. stands (r .q) (16 + fieldSize (r .mode) + fieldSize (r .p))) tt c e);
+      head = eqb→eq _ _ (of-class FormulaRecord (λ r. eqb (r .head) (16 + fieldSize (r .mode) + fieldSize (r .p) + fieldSize (r .q))) tt c e);
+    }
+
+-- ---- what is told
+
+when-nowhere : (f : Field) (b : Bool) → T (cond (eqb (f .at) 0) b true) → f .at ≡ 0 → T b
+when-nowhere f b t z = subst (λ (x : Bool). T (cond x b true)) (eq-eqb (f .at) 0 z) t
+
+abbrev alone : Row → Bool
+alone r = eqb (r .base) 0 && (eqb (r .q .most) 0 && (eqb (r .p .each) 1 || eqb (r .p .most) 0))
+
+-- a row that has p pieces: one for each, or none at all
+by-length : (r : Row) → T (alone r) → (p q : ℕ) → p ≤ r .p .most → q ≤ r .q .most → piecesBy r p q ≡ p
+unfolding piecesBy
+by-length r t p q a b =
+    let u = both (eqb (r .base) 0) _ t in
+    let v = both (eqb (r .q .most) 0) _ (u .1) in
+    let z : q ≡ 0 = omega (arith, eqb→eq (r .q .most) 0 (v .0), b) in
+    rw (eqb→eq (r .base) 0 (u .0), z) (by (either (eqb (r .p .each) 1) (eqb (r .p .most) 0) (v .1)))
+  where
+    by : T (eqb (r .p .each) 1) ⊎ T (eqb (r .p .most) 0) → 0 + r .p .each * p + r .q .each * 0 ≡ p
+    by (inl n) = rw (eqb→eq (r .p .each) 1 n) (omega arith)
+    by (inr n) = let z : p ≡ 0 = omega (arith, eqb→eq (r .p .most) 0 n, a) in rw z (omega arith)
+
+pub told : (c : ℕ) → Told (rowOf c)
+unfolding rows
+told c =
+    let r = rowOf c in
+    record {
+      p = λ z. by-length r (when-nowhere (r .p) (alone r) (tested (λ x. cond (eqb (x .p .at) 0) (alone x) true) tt c) z);
+      q = λ z. eqb→eq _ _ (when-nowhere (r .q) (eqb (r .q .most) 0) (tested (λ x. cond (eqb (x .q .at) 0) (eqb (x .q .most) 0) true) tt c) z);
+      mode = λ z. eqb→eq _ _ (when-nowhere (r .mode) (eqb (r .mode .most) 0) (tested (λ x. cond (eqb (x .mode .at) 0) (eqb (x .mode .most) 0) true) tt c) z);
+      small = (below (λ x. x .p .most) (λ x. 65536) tt c, below (λ x. x .q .most) (λ x. 65536) tt c, below (λ x. x .mode .most) (λ x. 65536) tt c);
+    }

@@ -1,0 +1,24 @@
+-- `table::length_by` meets its contract: head and pieces together have at most 120 bytes by the table's rule.
+use borrow.Author.Needs.{needs}
+use mathlib.Core.Path.{refl}
+use Prim.Native.Nat.{_+_, _*_, _≤_}
+use native.Mathlib.Omega.{arith}
+use Rattle.table.specs.Table.{lengthBy}
+use Rattle.table.proofs.Rule.{short}
+use Rattle.table.proofs.length_by.Statement.{statement}
+use Rattle.table.proofs.length_by.Tie as tie
+
+all : (c : tie.Start) → lengthBy (c .args .row) (c .args .p) (c .args .q) ≤ 120
+all c = short (c .args .row) (c .args .p) (c .args .q) (c .pre .0) (c .pre .1) (c .pre .2)
+
+mul-result : tie.Need-mul-result
+mul-result c = rw (c .before .pieces-by .ensures .0) (omega (arith, all (c .before .before)))
+
+add-result : tie.Need-add-result
+add-result c = rw (c .before .before .pieces-by .ensures .0) (omega (arith, all (c .before .before .before)))
+
+returns : tie.Need-returns
+returns c = rw (c .before .before .pieces-by .ensures .0) (refl, all (c .before .before .before))
+
+pub length-by-spec : {M : Type 1} → statement M
+length-by-spec = tie.close (tie.spec (λ c κs. search needs) mul-result add-result returns)

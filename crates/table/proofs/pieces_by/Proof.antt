@@ -1,0 +1,31 @@
+-- `table::pieces_by` meets its contract: what it adds up stays within the sum, which is at most 32 by the table's rule.
+use mathlib.Core.Path.{refl}
+use Prim.Native.Nat.{_+_, _*_, _≤_}
+use native.Mathlib.Omega.{arith}
+use Rattle.table.specs.Table.{piecesBy}
+use Rattle.table.proofs.Rule.{few}
+use Rattle.table.proofs.pieces_by.Statement.{statement}
+use Rattle.table.proofs.pieces_by.Tie as tie
+
+all : (c : tie.Start) → c .args .row .base + c .args .row .p .each * c .args .p + c .args .row .q .each * c .args .q ≤ 32
+unfolding piecesBy
+all c = few (c .args .row) (c .args .p) (c .args .q) (c .pre .0) (c .pre .1) (c .pre .2)
+
+mul-result : tie.Need-mul-result
+mul-result c = omega (arith, all (c .before))
+
+add-result : tie.Need-add-result
+add-result c = omega (arith, all (c .before .before))
+
+mul-result-2 : tie.Need-mul-result-2
+mul-result-2 c = omega (arith, all (c .before .before .before))
+
+add-result-2 : tie.Need-add-result-2
+add-result-2 c = omega (arith, all (c .before .before .before))
+
+returns : tie.Need-returns
+unfolding piecesBy
+returns c = (refl, all (c .before .before .before))
+
+pub pieces-by-spec : {M : Type 1} → statement M
+pieces-by-spec = tie.close (tie.spec mul-result add-result mul-result-2 add-result-2 returns)

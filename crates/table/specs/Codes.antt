@@ -1,0 +1,40 @@
+-- From a formula's kind to its code, and the rows of a start and of an end: found in the table.
+use Prim.Native.Nat.{ℕ}
+use mathlib.Core.Bool.{Bool, _&&_}
+use lib.Dec.{eqb}
+use Rattle.formula.specs.declared.Kind.{Kind}
+use Rattle.formula.specs.declared.Kind.the-variants.{Polynomial, Rational, Fraction, Root, NoFormula}
+use Rattle.table.specs.declared.Class.{Class}
+use Rattle.table.specs.declared.Class.the-variants.{StartRecord, FormulaRecord, EndRecord, Unknown}
+use Rattle.table.specs.declared.Row.{Row}
+use Rattle.table.specs.Table.{rows, firstRow}
+
+-- numbers by which classes, and kinds, are told apart
+abbrev pub classTag : Class → ℕ
+classTag StartRecord = 0
+classTag FormulaRecord = 1
+classTag EndRecord = 2
+classTag Unknown = 3
+
+abbrev pub kindTag : Kind → ℕ
+kindTag NoFormula = 0
+kindTag Polynomial = 1
+kindTag Rational = 2
+kindTag Fraction = 3
+kindTag Root = 4
+
+abbrev pub ofClass : Class → Row → Bool
+ofClass k r = eqb (classTag (r .class)) (classTag k)
+
+abbrev pub ofKind : Kind → Row → Bool
+ofKind k r = eqb (kindTag (r .kind)) (kindTag k)
+
+-- the code of the kind's formulas; 0, which no row has, for a kind that is no formula
+unfoldable pub codeFor : Kind → ℕ
+codeFor k = firstRow (λ r. ofClass FormulaRecord r && ofKind k r) rows .code
+
+unfoldable pub startRow : Row
+startRow = firstRow (ofClass StartRecord) rows
+
+unfoldable pub endRow : Row
+endRow = firstRow (ofClass EndRecord) rows
