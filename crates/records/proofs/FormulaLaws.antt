@@ -16,7 +16,7 @@ use Rattle.formula.specs.Formula.{mostOf, wordCount, admissionBy, admissionOf}
 use Rattle.table.specs.Table.{rows, firstRow, rowOf}
 use Rattle.table.specs.Codes.{codeFor}
 use Rattle.table.specs.Rule.{Ruled}
-use Rattle.table.proofs.KindLaws.{code-found, code-again, formula-kind}
+use Rattle.table.proofs.CodeLaws.{code-found, code-again, formula-kind}
 use Rattle.table.specs.declared.Class.{Class}
 use Rattle.table.specs.declared.Class.the-variants.{StartRecord, FormulaRecord, EndRecord, Unknown}
 use Rattle.table.specs.declared.Row.{Row}

@@ -1,6 +1,6 @@
 -- Laws, lowest first.
 pub mod Tested
 pub mod Search
-pub mod KindLaws
+pub mod CodeLaws
 pub mod Rule
 pub mod OrderLaws

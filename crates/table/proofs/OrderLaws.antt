@@ -1,17 +1,16 @@
 -- The order of a formula's fields and what its bytes tell of them, each by a test that is computed over the table's rows.
-use mathlib.Core.Path.{_≡_, refl, ap, sym, subst, _∙_}
+use mathlib.Core.Path.{_≡_, sym, subst}
 use mathlib.Core.Logic.{_⊎_, inl, inr}
-use mathlib.Core.Bool.{Bool, true, false, cond, _&&_, _||_}
+use mathlib.Core.Bool.{Bool, true, false, _&&_, _||_}
 use Prim.Native.Nat.{ℕ, _+_, _*_, _≤_}
 use native.Mathlib.Omega.{arith}
-use lib.Dec.{T, eqb, ltb, eqb→eq, ltb→lt}
-use borrow.Author.Tests.{eq-eqb}
+use lib.Dec.{T, eqb, eqb→eq}
 use Rattle.table.specs.Table.{rows, rowOf, piecesBy}
 use Rattle.table.specs.Order.{fieldSize, Stands, Ordered, Told}
 use Rattle.table.specs.declared.Class.the-variants.{FormulaRecord}
 use Rattle.table.specs.declared.Field.{Field}
 use Rattle.table.specs.declared.Row.{Row}
-use Rattle.table.proofs.Tested.{both, tested, below, of-class}
+use Rattle.table.proofs.Tested.{both, _implies_, Passed, chosen, below, of-class}
 
 either : (a b : Bool) → T (a || b) → T a ⊎ T b
 either true b t = inl tt
@@ -39,14 +38,15 @@ ordered c e =
 
 -- ---- what is told
 
-when-nowhere : (f : Field) (b : Bool) → T (cond (eqb (f .at) 0) b true) → f .at ≡ 0 → T b
-when-nowhere f b t z = subst (λ (x : Bool). T (cond x b true)) (eq-eqb (f .at) 0 z) t
+-- a test of those rows in which a field stands nowhere
+nowhere : (f : Row → Field) (t : Row → Bool) → Passed (λ r. eqb (f r .at) 0 implies t r) → (c : ℕ) → f (rowOf c) .at ≡ 0 → T (t (rowOf c))
+nowhere f t h c z = chosen (λ r. eqb (f r .at) 0) t h c (subst (λ (n : ℕ). T (eqb n 0)) (sym z) tt)
 
-abbrev alone : Row → Bool
-alone r = eqb (r .base) 0 && (eqb (r .q .most) 0 && (eqb (r .p .each) 1 || eqb (r .p .most) 0))
+-- as many pieces as p: one for each, or none at all
+abbrev byLength : Row → Bool
+byLength r = eqb (r .base) 0 && (eqb (r .q .most) 0 && (eqb (r .p .each) 1 || eqb (r .p .most) 0))
 
--- a row that has p pieces: one for each, or none at all
-by-length : (r : Row) → T (alone r) → (p q : ℕ) → p ≤ r .p .most → q ≤ r .q .most → piecesBy r p q ≡ p
+by-length : (r : Row) → T (byLength r) → (p q : ℕ) → p ≤ r .p .most → q ≤ r .q .most → piecesBy r p q ≡ p
 unfolding piecesBy
 by-length r t p q a b =
     let u = both (eqb (r .base) 0) _ t in
@@ -61,10 +61,9 @@ by-length r t p q a b =
 pub told : (c : ℕ) → Told (rowOf c)
 unfolding rows
 told c =
-    let r = rowOf c in
     record {
-      p = λ z. by-length r (when-nowhere (r .p) (alone r) (tested (λ x. cond (eqb (x .p .at) 0) (alone x) true) tt c) z);
-      q = λ z. eqb→eq _ _ (when-nowhere (r .q) (eqb (r .q .most) 0) (tested (λ x. cond (eqb (x .q .at) 0) (eqb (x .q .most) 0) true) tt c) z);
-      mode = λ z. eqb→eq _ _ (when-nowhere (r .mode) (eqb (r .mode .most) 0) (tested (λ x. cond (eqb (x .mode .at) 0) (eqb (x .mode .most) 0) true) tt c) z);
-      small = (below (λ x. x .p .most) (λ x. 65536) tt c, below (λ x. x .q .most) (λ x. 65536) tt c, below (λ x. x .mode .most) (λ x. 65536) tt c);
+      p = λ z. by-length (rowOf c) (nowhere (λ r. r .p) byLength tt c z);
+      q = λ z. eqb→eq _ _ (nowhere (λ r. r .q) (λ r. eqb (r .q .most) 0) tt c z);
+      mode = λ z. eqb→eq _ _ (nowhere (λ r. r .mode) (λ r. eqb (r .mode .most) 0) tt c z);
+      small = (below (λ r. r .p .most) (λ r. 65536) tt c, below (λ r. r .q .most) (λ r. 65536) tt c, below (λ r. r .mode .most) (λ r. 65536) tt c);
     }

@@ -1,7 +1,7 @@
 -- The rule of the table, each clause by a test that is computed over its rows; and what it says of every record of a row.
 use mathlib.Core.Path.{_≡_, sym, ap, subst, _∙_}
-use mathlib.Core.Bool.{Bool, true, false, cond, _&&_}
-use Prim.Native.Nat.{ℕ, _+_, _*_, _≤_}
+use mathlib.Core.Bool.{Bool, _&&_}
+use Prim.Native.Nat.{ℕ, _+_, _≤_}
 use native.Mathlib.Nat.{mul-le-mul-left, mul-zero}
 use native.Mathlib.Omega.{arith}
 use lib.Dec.{T, eqb, eqb→eq}
@@ -10,11 +10,12 @@ use Rattle.formula.specs.declared.Kind.the-variants.{Polynomial, Rational, Frac
 use Rattle.table.specs.Table.{rows, field, none, firstRow, rowOf, piecesBy, lengthBy}
 use Rattle.table.specs.Codes.{codeFor, startRow, endRow}
 use Rattle.table.specs.Rule.{leastHead, countField, Meets, Many, Framing, Bare, Ruled}
+use Rattle.table.specs.declared.Class.{Class}
 use Rattle.table.specs.declared.Class.the-variants.{StartRecord, FormulaRecord, EndRecord}
 use Rattle.table.specs.declared.Field.{Field}
 use Rattle.table.specs.declared.Row.{Row}
 use Rattle.table.proofs.Tested.{both, tested, at-most, of-class, of-framing}
-use Rattle.table.proofs.KindLaws.{row-by-kind, start-row, end-row}
+use Rattle.table.proofs.CodeLaws.{row-by-kind, start-row, end-row}
 
 -- ---- two fields with the same numbers
 
@@ -90,14 +91,17 @@ module _ (r : Row) (p q : ℕ) (u : Ruled r) (a : p ≤ r .p .most) (b : q ≤ r
 
 -- ---- a record that is no formula is as long as its head
 
-pub framing-length : (c : ℕ) → Framing (rowOf c .class) → (p q : ℕ) → lengthBy (rowOf c) p q ≡ rowOf c .head
+pub bare-by-head : (r : Row) (p q : ℕ) → Bare r → lengthBy r p q ≡ r .head
 unfolding piecesBy
-framing-length c h p q = let b = bare c h in rw (b .base, b .p, b .q) (omega (arith, mul-zero (rowOf c .width)))
+bare-by-head r p q b = rw (b .base, b .p, b .q) (omega (arith, mul-zero (r .width)))
+
+framing-length : {k : Class} (w : Row) (c : ℕ) → rowOf c .class ≡ k → Framing k → rowOf c ≡ w → (p q : ℕ) → lengthBy (rowOf c) p q ≡ w .head
+framing-length w c e h n p q = bare-by-head (rowOf c) p q (bare c (subst Framing (sym e) h)) ∙ ap (λ (r : Row). r .head) n
 
 pub start-length : (c : ℕ) → rowOf c .class ≡ StartRecord → (p q : ℕ) → lengthBy (rowOf c) p q ≡ 8
 unfolding startRow firstRow rows
-start-length c e p q = framing-length c (subst Framing (sym e) tt) p q ∙ ap (λ (r : Row). r .head) (start-row c e)
+start-length c e = framing-length startRow c e tt (start-row c e)
 
 pub end-length : (c : ℕ) → rowOf c .class ≡ EndRecord → (p q : ℕ) → lengthBy (rowOf c) p q ≡ 8
 unfolding endRow firstRow rows
-end-length c e p q = framing-length c (subst Framing (sym e) tt) p q ∙ ap (λ (r : Row). r .head) (end-row c e)
+end-length c e = framing-length endRow c e tt (end-row c e)

@@ -1,5 +1,6 @@
 -- From a formula's kind to its code, and the rows of a start and of an end: found in the table.
 use Prim.Native.Nat.{ℕ}
+use mathlib.Core.Path.{_≡_, refl}
 use mathlib.Core.Bool.{Bool, _&&_}
 use lib.Dec.{eqb}
 use Rattle.formula.specs.declared.Kind.{Kind}
@@ -7,7 +8,7 @@ use Rattle.formula.specs.declared.Kind.the-variants.{Polynomial, Rational, Frac
 use Rattle.table.specs.declared.Class.{Class}
 use Rattle.table.specs.declared.Class.the-variants.{StartRecord, FormulaRecord, EndRecord, Unknown}
 use Rattle.table.specs.declared.Row.{Row}
-use Rattle.table.specs.Table.{rows, firstRow}
+use Rattle.table.specs.Table.{rows, firstRow, rowOf}
 
 -- numbers by which classes, and kinds, are told apart
 abbrev pub classTag : Class → ℕ
@@ -38,3 +39,20 @@ startRow = firstRow (ofClass StartRecord) rows
 
 unfoldable pub endRow : Row
 endRow = firstRow (ofClass EndRecord) rows
+
+-- ---- worked examples: the paper's codes
+formula-codes : (codeFor Polynomial ≡ 0x0010) × (codeFor Rational ≡ 0x0011) × (codeFor Fraction ≡ 0x0012) × (codeFor Root ≡ 0x0013)
+unfolding rows firstRow codeFor
+formula-codes = (refl, refl, refl, refl)
+
+no-formula-code : codeFor NoFormula ≡ 0
+unfolding rows firstRow codeFor
+no-formula-code = refl
+
+pub the-start : rowOf 0x0001 ≡ startRow
+unfolding rows firstRow rowOf startRow
+the-start = refl
+
+pub the-end : rowOf 0xffff ≡ endRow
+unfolding rows firstRow rowOf endRow
+the-end = refl

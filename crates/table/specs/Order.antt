@@ -1,12 +1,12 @@
 -- How a formula's fields stand in its record, and what its bytes tell of them.
 use Prim.Native.Nat.{ℕ, _+_, _<_, _≤_}
-use mathlib.Core.Path.{_≡_}
+use mathlib.Core.Path.{_≡_, refl}
 use mathlib.Core.Bool.{cond}
 use mathlib.Core.Logic.{_⊎_}
 use lib.Dec.{eqb}
 use Rattle.table.specs.declared.Field.{Field}
 use Rattle.table.specs.declared.Row.{Row}
-use Rattle.table.specs.Table.{piecesBy}
+use Rattle.table.specs.Table.{field, none, piecesBy}
 
 -- how many bytes a field takes, and that it stands at a place if it is stored
 abbrev pub fieldSize : Field → ℕ
@@ -28,3 +28,7 @@ pub record Told (r : Row) : Type 0 where
   pub q : r .q .at ≡ 0 → r .q .most ≡ 0
   pub mode : r .mode .at ≡ 0 → r .mode .most ≡ 0
   pub small : (r .p .most < 65536) × (r .q .most < 65536) × (r .mode .most < 65536)
+
+-- ---- worked examples: a stored field and one that is not
+two-bytes : (fieldSize (field 16 1 12 1) ≡ 2) × (fieldSize none ≡ 0)
+two-bytes = (refl, refl)

@@ -1,12 +1,12 @@
 -- What holds of every row of the table.
-use Prim.Native.Nat.{ℕ, _+_, _*_, _≤_}
+use Prim.Native.Nat.{ℕ, _+_, _≤_}
 use mathlib.Core.Path.{_≡_}
 use Rattle.formula.specs.Formula.{Counted, wordCount}
 use Rattle.table.specs.declared.Class.{Class}
 use Rattle.table.specs.declared.Class.the-variants.{StartRecord, FormulaRecord, EndRecord, Unknown}
 use Rattle.table.specs.declared.Field.{Field}
 use Rattle.table.specs.declared.Row.{Row}
-use Rattle.table.specs.Table.{field, none, Within, piecesBy, lengthBy}
+use Rattle.table.specs.Table.{none, framingCount, Within, piecesBy, lengthBy}
 
 -- how far a class's own fields go: to the count, or to number, lo and hi
 abbrev pub leastHead : Class → ℕ
@@ -15,18 +15,18 @@ leastHead FormulaRecord = 16
 leastHead EndRecord = 8
 leastHead Unknown = 8
 
--- the count that a class of records has: that of a start and of an end goes from 1 to 64
+-- the count that a class of records has
 abbrev pub countField : Class → Field
-countField StartRecord = field 6 1 64 0
+countField StartRecord = framingCount
 countField FormulaRecord = none
-countField EndRecord = field 6 1 64 0
+countField EndRecord = framingCount
 countField Unknown = none
 
 -- counts and mode in the row's ranges are what the formula's kind asks for
 abbrev pub Meets : Row → Type 0
 Meets r = (p q mode : ℕ) → Within (r .p) p → Within (r .q) q → Within (r .mode) mode → Counted (r .kind) p q mode
 
--- and as many pieces as the kind has words
+-- and there are as many pieces as the kind has words
 abbrev pub Many : Row → Type 0
 Many r = (p q : ℕ) → wordCount (r .kind) p q ≡ piecesBy r p q
 
@@ -50,8 +50,8 @@ pub record Bare (r : Row) : Type 0 where
   pub p : r .p ≡ none
   pub q : r .q ≡ none
 
--- the fields stand in front of the pieces, an array of 32 holds these, and the longest record has at most 120 bytes; a formula's row
--- meets its kind, and any other is bare
+-- the fields stand in front of the pieces, an array of 32 holds these, and the longest record has at most 120 bytes; a start and an end
+-- have their count; a formula's pieces are words, and its row meets its kind; any other row is bare
 pub record Ruled (r : Row) : Type 0 where
   pub least : leastHead (r .class) ≤ r .head
   pub most : r .head ≤ 20

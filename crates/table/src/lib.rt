@@ -25,9 +25,9 @@ pub struct Field {
     pub each: usize,
 }
 
-// A record of the kind has `head` bytes, then base + p.each * p + q.each * q pieces of `width` bytes: a formula's words.
-// A p that stands nowhere is the number of pieces by the record's length; a q or a mode that stands nowhere is 0. The
-// count is a start's or an end's.
+// A record of the kind has `head` bytes, then base + p.each * p + q.each * q pieces of `width` bytes each: a formula's
+// words. A p that stands nowhere is the number of pieces by the record's length; a q or a mode that stands nowhere is 0.
+// A start and an end have a count, and no pieces.
 pub struct Row {
     pub code: u16,
     pub class: Class,
@@ -41,6 +41,7 @@ pub struct Row {
     pub count: Field,
 }
 
+// The codes, as the table has them and the search asks for them.
 pub const START: u16 = 0x0001;
 
 pub const POLYNOMIAL: u16 = 0x0010;
@@ -53,7 +54,7 @@ pub const ROOT: u16 = 0x0013;
 
 pub const END: u16 = 0xffff;
 
-// A row as the table keeps it, its numbers side by side.
+// A row as the table keeps it, its numbers side by side: the prover's work for a constant grows with the structs in it.
 struct Line {
     code: u16,
     class: Class,
@@ -61,7 +62,8 @@ struct Line {
     numbers: [u16; 19],
 }
 
-// The numbers of a row: head, width, base; then at, least, most and each of p, of q, of the mode and of the count.
+// The numbers of a row, from left to right: head, width, base; then at, least, most, each of p; the same four of q; of the
+// mode; of the count.
 const ROWS: [Line; 6] = [
     Line {
         code: START,
@@ -109,6 +111,7 @@ const UNKNOWN: Line = Line {
     numbers: [8, 0, 0, 0, 0, 0, 0, 0, 0, 0, 0, 0, 0, 0, 0, 0, 0, 0, 0],
 };
 
+// The only function that names the table: a constant is written out, and walked, in each that does.
 fn all_lines() -> [Line; 6]
     ensures { λ r. ⌜ r ≡ map line rows ⌝ }
 {
@@ -180,15 +183,21 @@ pub fn code_for(kind: Kind) -> u16
 
 // How many pieces a record of the row has for two counts in their ranges, and how many bytes.
 pub fn pieces_by(row: Row, p: u16, q: u16) -> usize
-    requires { ⌜ Ruled row × (p ≤ row .p .most) × (q ≤ row .q .most) ⌝ }
-    ensures { λ r. ⌜ (r ≡ piecesBy row p q) × (r ≤ 32) ⌝ }
+    requires ruled { ⌜ Ruled row ⌝ }
+    requires first { ⌜ p ≤ row .p .most ⌝ }
+    requires second { ⌜ q ≤ row .q .most ⌝ }
+    ensures exact { λ r. ⌜ r ≡ piecesBy row p q ⌝ }
+    ensures few { λ r. ⌜ r ≤ 32 ⌝ }
 {
     row.base + row.p.each * (p as usize) + row.q.each * (q as usize)
 }
 
 pub fn length_by(row: Row, p: u16, q: u16) -> usize
-    requires { ⌜ Ruled row × (p ≤ row .p .most) × (q ≤ row .q .most) ⌝ }
-    ensures { λ r. ⌜ (r ≡ lengthBy row p q) × (r ≤ 120) ⌝ }
+    requires ruled { ⌜ Ruled row ⌝ }
+    requires first { ⌜ p ≤ row .p .most ⌝ }
+    requires second { ⌜ q ≤ row .q .most ⌝ }
+    ensures exact { λ r. ⌜ r ≡ lengthBy row p q ⌝ }
+    ensures short { λ r. ⌜ r ≤ 120 ⌝ }
 {
     row.head + row.width * pieces_by(row, p, q)
 }

@@ -1,17 +1,20 @@
 -- The walk, record after record: over a sheet, or over a run of formula records that a sheet is to be put around. `from` is the place of the
 -- first byte in the sheet: 0 for a sheet, which ends with an end record; behind a start for a run, which ends with its last byte.
 -- The binary places are s.
-use Prim.Native.Nat.{ℕ, zero, suc, _+_, _-_}
+use Prim.Native.Nat.{ℕ, zero, suc, _+_, _-_, _≤_}
+use mathlib.Core.Path.{_≡_}
 use mathlib.Core.List.{List}
-use mathlib.Core.Bool.{cond, _&&_, not}
+use mathlib.Core.Bool.{Bool, false, cond}
 use lib.Dec.{ltb, eqb}
 use lib.ListN.{length}
+use Rattle.word.specs.Words.{Scale}
 use Rattle.table.specs.declared.Class.{Class}
 use Rattle.table.specs.declared.Class.the-variants.{StartRecord, FormulaRecord, EndRecord, Unknown}
 use Rattle.table.specs.declared.Row.{Row}
+use Rattle.table.specs.Table.{rowOf}
 use Rattle.layout.specs.Fields.{bytesAt, rowFor, countOf, formulaNumber}
 use Rattle.records.specs.Guard.{guard, orElse, refusal}
-use Rattle.records.specs.Faults.{frameFault, lengthFault, startFault, scaleFault, orderFault, endFault, innerFault}
+use Rattle.records.specs.Faults.{frameFault, lengthFault, startFault, scaleFault, orderFault, endFault, innerFault, formulaFault, onlyFormula}
 use Rattle.walking.specs.declared.Walk.{Walk}
 use Rattle.walking.specs.declared.Walked.{Walked}
 use Rattle.walking.specs.declared.Walked.the-variants.{Whole, Broken}
@@ -49,6 +52,23 @@ recordFault s from r b w =
     (orElse (lengthFault r b)
     (classFault s (r .class) r b w))
 
+-- the same, class by class, as the code meets them
+abbrev pub startRecordFault : ℕ → List ℕ → ℕ → ℕ
+startRecordFault s b at =
+    cond (eqb at 0)
+    (orElse (orElse (lengthFault (rowOf 0x0001) b) (startFault (rowOf 0x0001) (countOf b))) (scaleFault s))
+    3
+
+abbrev pub endRecordFault : ℕ → List ℕ → Walk → ℕ
+endRecordFault from b w =
+    cond (eqb (w .at) 0) 3
+    (cond (eqb from 0) (orElse (lengthFault (rowOf 0xffff) b) (endFault (w .seen) (w .count) (countOf b))) 3)
+
+abbrev pub otherRecordFault : ℕ → List ℕ → Walk → ℕ
+otherRecordFault s b w =
+    cond (eqb (w .at) 0) 3
+    (orElse (onlyFormula (rowFor b .class)) (formulaFault s (rowFor b) b (w .seen) (w .count) (w .next)))
+
 -- the record at the walk's place
 abbrev pub recordHere : List ℕ → ℕ → Walk → List ℕ
 recordHere bytes from w = bytesAt bytes (w .at - from)
@@ -83,18 +103,28 @@ onward next EndRecord b w n = ending w (w .at + length b) n
 onward next Unknown b w n = Broken (refusal (w .at) 3)
 
 -- ---- the walk. A run is whole at its last byte, with as many formulas as were seen
-abbrev pub runDone : List ℕ → ℕ → Walk → Walked → Walked
-runDone bytes zero w next = next
-runDone bytes (suc n) w next = cond (eqb (w .at - suc n) (length bytes)) (Whole (w .seen) (w .found)) next
+abbrev pub runDone : List ℕ → ℕ → Walk → Bool
+runDone bytes zero w = false
+runDone bytes (suc n) w = eqb (w .at - suc n) (length bytes)
 
 -- k records at most; that there is one more is never met. Refusals 1 to 8 give the first byte of their record as the place
 unfoldable pub walkFrom : ℕ → ℕ → List ℕ → ℕ → Walk → Walked
 walkFrom zero s bytes from w = Broken (refusal (w .at) 4)
 walkFrom (suc k) s bytes from w =
-    runDone bytes from w
+    cond (runDone bytes from w) (Whole (w .seen) (w .found))
     (guard (faultAt s bytes from w) (λ fault. Broken (refusal (w .at) fault))
     (onward (walkFrom k s bytes from) (rowFor (recordHere bytes from w) .class) (recordHere bytes from w) w (length bytes)))
 
 -- a start, 64 formulas and an end are 66 records
 unfoldable pub walkOf : ℕ → List ℕ → ℕ → ℕ → Walked
 walkOf s bytes from asked = walkFrom 66 s bytes from (begin from asked)
+
+-- ---- what the functions ask of their callers: a run stands not far from the sheet's first byte, and its scale is a board's
+pub record Walkable (s from : ℕ) : Type 0 where
+  pub near : from ≤ 120
+  pub scale : ¬ (from ≡ 0) → Scale s
+
+-- the walk stands within the bytes
+pub record Standing (bytes : List ℕ) (from : ℕ) (w : Walk) : Type 0 where
+  pub begun : from ≤ w .at
+  pub within : w .at ≤ from + length bytes

@@ -2,9 +2,10 @@
 ghost use mathlib.Core.Path.{_≡_};
 ghost use Prim.Native.Nat.{_+_, _<_, _≤_};
 ghost use lib.ListN.{length};
+ghost use Rattle.word.specs.Words.{Scale};
 ghost use Rattle.records.specs.Guard.{refusal};
 ghost use Rattle.layout.specs.Fields.{rowFor};
-ghost use Rattle.walking.specs.Walking.{begin, afterStart, foundBy, afterFormula, ending, recordFault, faultAt, walkOf, Walkable, Standing};
+ghost use Rattle.walking.specs.Walking.{roomFor, begin, afterStart, foundBy, afterFormula, ending, startRecordFault, endRecordFault, otherRecordFault, recordFault, faultAt, runDone, walkOf, Walkable, Standing};
 use layout::fields;
 use records::Refusal;
 use records::formulas;
@@ -104,7 +105,7 @@ fn ending(w: Walk, place: usize, n: usize) -> Walked
 // A start: 3 anywhere but at 0; 2; 4; then 6 for the scale.
 fn start_fault(b: &[u8], at: usize, s: u32) -> u8
     requires { ⌜ 8 ≤ length (now b) ⌝ }
-    ensures { λ r. ⌜ r ≡ orElse (placeFault 0 StartRecord at) (orElse (orElse (lengthFault (rowOf 0x0001) (now (b .entry))) (startFault (rowOf 0x0001) (countOf (now (b .entry))))) (scaleFault s)) ⌝ }
+    ensures { λ r. ⌜ r ≡ startRecordFault s (now (b .entry)) at ⌝ }
 {
     if at != 0 {
         return 3;
@@ -114,4 +115,94 @@ fn start_fault(b: &[u8], at: usize, s: u32) -> u8
         return f;
     }
     records::scale_fault(s)
+}
+
+// An end: 3 at 0, and anywhere in a run; 2; 4.
+fn end_fault(b: &[u8], from: usize, w: Walk) -> u8
+    requires { ⌜ 8 ≤ length (now b) ⌝ }
+    ensures { λ r. ⌜ r ≡ endRecordFault from (now (b .entry)) w ⌝ }
+{
+    if w.at == 0 {
+        return 3;
+    }
+    if from != 0 {
+        return 3;
+    }
+    framing::end_fault(b, w.seen, w.count)
+}
+
+// A formula: 3 at 0; then its own faults.
+fn formula_fault(b: &[u8], w: Walk, s: u32) -> u8
+    requires { ⌜ (8 ≤ length (now b)) × (length (now b) ≤ 120) × (¬ (w .at ≡ 0) → Scale s) ⌝ }
+    ensures { λ r. ⌜ r ≡ otherRecordFault s (now (b .entry)) w ⌝ }
+{
+    if w.at == 0 {
+        return 3;
+    }
+    formulas::formula_fault(b, w.seen, w.count, w.next, s)
+}
+
+fn record_fault(b: &[u8], from: usize, w: Walk, s: u32) -> u8
+    requires { ⌜ (8 ≤ length (now b)) × (length (now b) ≤ 120) × (¬ (w .at ≡ 0) → Scale s) ⌝ }
+    ensures { λ r. ⌜ r ≡ recordFault s from (rowFor (now (b .entry))) (now (b .entry)) w ⌝ }
+{
+    match fields::code(b) {
+        table::START => start_fault(b, w.at, s),
+        table::END => end_fault(b, from, w),
+        _ => formula_fault(b, w, s),
+    }
+}
+
+fn fault_at(bytes: &[u8], from: usize, w: Walk, s: u32) -> u8
+    requires { ⌜ Standing (now bytes) from w × (¬ (w .at ≡ 0) → Scale s) ⌝ }
+    ensures { λ r. ⌜ r ≡ faultAt s (now (bytes .entry)) from w ⌝ }
+{
+    let at = w.at - from;
+    let f = records::frame_fault(bytes, at);
+    if f != 0 {
+        return f;
+    }
+    record_fault(fields::record_at(bytes, at), from, w, s)
+}
+
+// A run has come to its last byte.
+fn run_done(bytes: &[u8], from: usize, w: Walk) -> bool
+    requires { ⌜ Standing (now bytes) from w ⌝ }
+    ensures { λ r. ⌜ r ≡ runDone (now (bytes .entry)) from w ⌝ }
+{
+    if from == 0 {
+        return false;
+    }
+    w.at - from == bytes.len()
+}
+
+pub fn walk_over(bytes: &[u8], from: usize, asked: u32, s: u32) -> Walked
+    requires { ⌜ Walkable s from ⌝ }
+    ensures { λ r. ⌜ r ≡ walkOf s (now (bytes .entry)) from asked ⌝ }
+{
+    let mut w = begin(from, asked);
+    loop {
+        if run_done(bytes, from, w) {
+            return Walked::Whole {
+                count: w.seen,
+                found: w.found,
+            };
+        }
+        let f = fault_at(bytes, from, w, s);
+        if f != 0 {
+            return refused(w.at, f);
+        }
+        let b = fields::record_at(bytes, w.at - from);
+        match fields::code(b) {
+            table::START => {
+                w = after_start(b, w);
+            }
+            table::END => {
+                return ending(w, w.at + b.len(), bytes.len());
+            }
+            _ => {
+                w = after_formula(b, w);
+            }
+        }
+    }
 }

@@ -1,7 +1,7 @@
 -- `table::length_by` meets its contract: head and pieces together have at most 120 bytes by the table's rule.
 use borrow.Author.Needs.{needs}
 use mathlib.Core.Path.{refl}
-use Prim.Native.Nat.{_+_, _*_, _≤_}
+use Prim.Native.Nat.{_≤_}
 use native.Mathlib.Omega.{arith}
 use Rattle.table.specs.Table.{lengthBy}
 use Rattle.table.proofs.Rule.{short}
@@ -9,7 +9,7 @@ use Rattle.table.proofs.length_by.Statement.{statement}
 use Rattle.table.proofs.length_by.Tie as tie
 
 all : (c : tie.Start) → lengthBy (c .args .row) (c .args .p) (c .args .q) ≤ 120
-all c = short (c .args .row) (c .args .p) (c .args .q) (c .pre .0) (c .pre .1) (c .pre .2)
+all c = short (c .args .row) (c .args .p) (c .args .q) (c .pre .0) (c .pre .1 .0) (c .pre .1 .1)
 
 mul-result : tie.Need-mul-result
 mul-result c = rw (c .before .pieces-by .ensures .0) (omega (arith, all (c .before .before)))

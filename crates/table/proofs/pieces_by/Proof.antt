@@ -9,7 +9,7 @@ use Rattle.table.proofs.pieces_by.Tie as tie
 
 all : (c : tie.Start) → c .args .row .base + c .args .row .p .each * c .args .p + c .args .row .q .each * c .args .q ≤ 32
 unfolding piecesBy
-all c = few (c .args .row) (c .args .p) (c .args .q) (c .pre .0) (c .pre .1) (c .pre .2)
+all c = few (c .args .row) (c .args .p) (c .args .q) (c .pre .0) (c .pre .1 .0) (c .pre .1 .1)
 
 mul-result : tie.Need-mul-result
 mul-result c = omega (arith, all (c .before))

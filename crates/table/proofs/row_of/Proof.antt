@@ -1,6 +1,6 @@
 -- `table::row_of` meets its contract: the row is made of the line that was found, as the line is of the row.
 use borrow.Author.Needs.{needs}
-use mathlib.Core.Path.{_≡_, ap, _∙_}
+use mathlib.Core.Path.{ap, _∙_}
 use lib.ListN.{getD}
 use Rattle.table.specs.Table.{row}
 use Rattle.table.specs.Lines.{fieldFrom}

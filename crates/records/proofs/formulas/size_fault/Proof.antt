@@ -16,7 +16,7 @@ length-by-requires : tie.Need-length-by-requires
 length-by-requires c κs =
     let s = c .before .before in
     let n = counted (s .args .row) (s .args .shape .p) (s .args .shape .q) (sym (c .before .count-fault .ensures) ∙ c .if1 .left) in
-    (s .pre, n .0 .1, n .1 .1)
+    (s .pre, (n .0 .1, n .1 .1))
 
 returns-2 : tie.Need-returns-2
 unfolding sizeFault

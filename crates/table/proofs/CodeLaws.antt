@@ -13,7 +13,7 @@ use Rattle.table.specs.Table.{rows, unknown, firstRow, rowOf}
 use Rattle.table.specs.Codes.{ofClass, ofKind, codeFor, startRow, endRow}
 use Rattle.table.specs.Rule.{Framing, Known}
 use Rattle.table.specs.declared.Class.{Class}
-use Rattle.table.specs.declared.Class.the-variants.{StartRecord, FormulaRecord, EndRecord}
+use Rattle.table.specs.declared.Class.the-variants.{StartRecord, FormulaRecord, EndRecord, Unknown}
 use Rattle.table.specs.declared.Row.{Row}
 use Rattle.table.proofs.Tested.{found, of-class, of-framing}
 
@@ -33,7 +33,7 @@ by-code c (r ∷ rs) = at (by-code c rs) (eqb (r .code) c) refl
 
 pub code-found : {k : Class} (c : ℕ) → rowOf c .class ≡ k → Known k → rowOf c .code ≡ c
 unfolding rowOf
-code-found {k} c e h = at (by-code c rows)
+code-found c e h = at (by-code c rows)
   where
     at : (rowOf c ≡ unknown) ⊎ (rowOf c .code ≡ c) → rowOf c .code ≡ c
     at (inl z) = absurd (subst Known (sym e ∙ ap (λ (r : Row). r .class) z) h)
@@ -78,6 +78,13 @@ formula-kind c e z =
     let h : 0 < codeFor (rowOf c .kind) = ltb→lt _ _ (of-class FormulaRecord (λ r. ltb 0 (codeFor (r .kind))) tt c e) in
     let n : codeFor (rowOf c .kind) ≡ 0 = ap codeFor z in
     omega arith
+
+-- a class that is no formula's
+pub no-formula : (k : Class) → (k ≡ FormulaRecord → ⊥) → Framing k
+no-formula StartRecord h = tt
+no-formula FormulaRecord h = h refl
+no-formula EndRecord h = tt
+no-formula Unknown h = tt
 
 pub other-kind : (c : ℕ) → Framing (rowOf c .class) → rowOf c .kind ≡ NoFormula
 unfolding rowOf codeFor firstRow rows

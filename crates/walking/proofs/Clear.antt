@@ -1,0 +1,120 @@
+-- What it says that there is no fault at the walk's place: the chain taken apart, and each class by itself.
+use mathlib.Core.Path.{_≡_, _∙_, refl, sym, subst}
+use mathlib.Core.List.{List}
+use mathlib.Core.Bool.{Bool, true, false, cond}
+use mathlib.Core.Logic.{_⊎_, inl, inr}
+use Prim.Native.Nat.{ℕ, suc, _-_, _≤_}
+use native.Mathlib.Omega.{arith}
+use lib.Dec.{eqb, ltb}
+use lib.ListN.{length}
+use borrow.Author.Tests.{eq-eqb, eqb-true, eqb-false, ltb-false}
+use Rattle.word.specs.Words.{Scale}
+use Rattle.table.specs.declared.Class.{Class}
+use Rattle.table.specs.declared.Class.the-variants.{StartRecord, FormulaRecord, EndRecord, Unknown}
+use Rattle.table.specs.declared.Row.{Row}
+use Rattle.layout.specs.Fields.{rowFor, countOf, formulaNumber}
+use Rattle.records.specs.Guard.{guard, refusal}
+use Rattle.records.specs.Faults.{frameFault, outside, lengthFault, startFault, scaleFault, orderFault, endFault, innerFault}
+use Rattle.records.proofs.Chain.{halts, goes, passed, met, neither}
+use Rattle.walking.specs.Walking.{placeFault, classFault, recordFault, recordHere, faultAt, onward, runDone, walkFrom}
+use Rattle.walking.specs.declared.Walk.{Walk}
+use Rattle.walking.specs.declared.Walked.{Walked}
+use Rattle.walking.specs.declared.Walked.the-variants.{Whole, Broken}
+
+-- ---- the chain
+pub record Clear (s : ℕ) (bytes : List ℕ) (from : ℕ) (w : Walk) (b : List ℕ) : Type 0 where
+  pub frame : frameFault bytes (w .at - from) ≡ 0
+  pub place : placeFault from (rowFor b .class) (w .at) ≡ 0
+  pub size : lengthFault (rowFor b) b ≡ 0
+  pub content : classFault s (rowFor b .class) (rowFor b) b w ≡ 0
+
+module _ (s : ℕ) (bytes : List ℕ) (from : ℕ) (w : Walk) where
+  pub clear : faultAt s bytes from w ≡ 0 → Clear s bytes from w (recordHere bytes from w)
+  unfolding faultAt recordFault
+  clear e =
+      let b = recordHere bytes from w in
+      let f = neither (frameFault bytes (w .at - from)) _ e in
+      let p = neither (placeFault from (rowFor b .class) (w .at)) _ (f .1) in
+      let l = neither (lengthFault (rowFor b) b) _ (p .1) in
+      record { frame = f .0; place = p .0; size = l .0; content = l .1 }
+
+  pub no-fault : Clear s bytes from w (recordHere bytes from w) → faultAt s bytes from w ≡ 0
+  unfolding faultAt recordFault
+  no-fault c = rw (eq-eqb _ _ (c .frame), eq-eqb _ _ (c .place), eq-eqb _ _ (c .size)) (c .content)
+
+-- ---- each class by itself
+later : (at x : ℕ) → cond (eqb at 0) 3 x ≡ 0 → (at ≡ 0 → ⊥) × (x ≡ 0)
+later at x e = let p = passed (eqb at 0) 3 x (λ z. omega arith) e in (eqb-false at 0 (p .0), p .1)
+
+pub good-scale : (s : ℕ) → scaleFault s ≡ 0 → Scale s
+unfolding scaleFault
+good-scale s e =
+    let a = passed (ltb s 16) 6 _ (λ z. omega arith) e in
+    record { least = ltb-false _ _ (a .0); most = ltb-false _ _ (passed (ltb 28 s) 6 0 (λ z. omega arith) (a .1) .0) }
+
+module _ {s : ℕ} {bytes : List ℕ} {from : ℕ} {w : Walk} {b : List ℕ} (c : Clear s bytes from w b) where
+  content-at : (k : Class) → rowFor b .class ≡ k → (placeFault from k (w .at) ≡ 0) × (classFault s k (rowFor b) b w ≡ 0)
+  content-at k e = (subst (λ (j : Class). placeFault from j (w .at) ≡ 0) e (c .place), subst (λ (j : Class). classFault s j (rowFor b) b w ≡ 0) e (c .content))
+
+  pub opened : rowFor b .class ≡ StartRecord → (w .at ≡ 0) × (startFault (rowFor b) (countOf b) ≡ 0) × Scale s
+  opened e =
+      let p = content-at StartRecord e in
+      let n = neither (startFault (rowFor b) (countOf b)) _ (p .1) in
+      (eqb-true _ _ (met (eqb (w .at) 0) 0 3 (λ z. omega arith) (p .0) .0), n .0, good-scale s (n .1))
+
+  pub moved : rowFor b .class ≡ FormulaRecord → (w .at ≡ 0 → ⊥) × (orderFault (w .seen) (w .count) (w .next) (formulaNumber b) ≡ 0) × (innerFault s (rowFor b) b ≡ 0)
+  moved e =
+      let p = content-at FormulaRecord e in
+      let n = neither (orderFault (w .seen) (w .count) (w .next) (formulaNumber b)) _ (p .1) in
+      (later (w .at) 0 (p .0) .0, n .0, n .1)
+
+  pub closed : rowFor b .class ≡ EndRecord → (w .at ≡ 0 → ⊥) × (from ≡ 0) × (endFault (w .seen) (w .count) (countOf b) ≡ 0)
+  closed e =
+      let p = content-at EndRecord e in
+      let l = later (w .at) _ (p .0) in
+      (l .0, eqb-true _ _ (met (eqb from 0) 0 3 (λ z. omega arith) (l .1) .0), p .1)
+
+  pub known : rowFor b .class ≡ Unknown → ⊥
+  known e = let p = content-at Unknown e in omega (arith, p .0)
+
+-- a formula in order is not one too many, and its number is not below the next
+pub ordered : (seen count next n : ℕ) → orderFault seen count next n ≡ 0 → (seen ≡ count → ⊥) × (next ≤ n)
+unfolding orderFault
+ordered seen count next n e =
+    let f = passed (eqb seen count) 4 _ (λ z. omega arith) e in
+    (eqb-false _ _ (f .0), ltb-false _ _ (passed (ltb n next) 5 0 (λ z. omega arith) (f .1) .0))
+
+pub both-counts : (seen count c : ℕ) → endFault seen count c ≡ 0 → (seen ≡ count) × (c ≡ count)
+unfolding endFault
+both-counts seen count c e =
+    let a = met (eqb seen count) _ 4 (λ z. omega arith) e in
+    (eqb-true _ _ (a .0), eqb-true _ _ (met (eqb c count) 0 4 (λ z. omega arith) (a .1) .0))
+
+-- ---- one record of the walk
+module _ (s : ℕ) (bytes : List ℕ) (from : ℕ) (w : Walk) (k : ℕ) where
+  abbrev rest : Walked
+  rest = onward (walkFrom k s bytes from) (rowFor (recordHere bytes from w) .class) (recordHere bytes from w) w (length bytes)
+
+  pub walk-done : runDone bytes from w ≡ true → walkFrom (suc k) s bytes from w ≡ Whole (w .seen) (w .found)
+  unfolding walkFrom
+  walk-done d = rw d refl
+
+  pub walk-broken : {f : ℕ} → runDone bytes from w ≡ false → f ≡ faultAt s bytes from w → (f ≡ 0 → ⊥) → walkFrom (suc k) s bytes from w ≡ Broken (refusal (w .at) f)
+  unfolding walkFrom
+  walk-broken d e h = rw d (sym (halts (λ n. Broken (refusal (w .at) n)) rest e h refl))
+
+  pub walk-on : runDone bytes from w ≡ false → faultAt s bytes from w ≡ 0 → walkFrom (suc k) s bytes from w ≡ rest
+  unfolding walkFrom
+  walk-on d e = rw d (sym (goes (λ n. Broken (refusal (w .at) n)) refl e refl))
+
+  -- and back: a walk that ends well
+  pub well : (c f : ℕ) → walkFrom (suc k) s bytes from w ≡ Whole c f → ((runDone bytes from w ≡ true) × (w .seen ≡ c) × (w .found ≡ f)) ⊎ ((runDone bytes from w ≡ false) × (faultAt s bytes from w ≡ 0) × (rest ≡ Whole c f))
+  unfolding walkFrom
+  well c f e = at (runDone bytes from w) refl (eqb (faultAt s bytes from w) 0) refl e
+    where
+      at : (d : Bool) → runDone bytes from w ≡ d → (t : Bool) → eqb (faultAt s bytes from w) 0 ≡ t
+          → cond d (Whole (w .seen) (w .found)) (cond t rest (Broken (refusal (w .at) (faultAt s bytes from w)))) ≡ Whole c f
+          → ((runDone bytes from w ≡ true) × (w .seen ≡ c) × (w .found ≡ f)) ⊎ ((runDone bytes from w ≡ false) × (faultAt s bytes from w ≡ 0) × (rest ≡ Whole c f))
+      at true d t q p = inl (d, cc, cc)
+      at false d true q p = inr (d, eqb-true _ _ q, p)
+      at false d false q p = absurd (let x : _≡_ {A = ℕ} 0 1 = cc in omega arith)

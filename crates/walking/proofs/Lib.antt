@@ -1,0 +1,5 @@
+-- Laws, lowest first.
+pub mod Classes
+pub mod Clear
+pub mod Records
+pub mod Going

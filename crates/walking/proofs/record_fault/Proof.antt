@@ -1,0 +1,24 @@
+use borrow.Author.Needs.{needs}
+use Rattle.walking.proofs.record_fault.Statement.{statement}
+use Rattle.walking.proofs.record_fault.Tie as tie
+
+returns : tie.Need-returns
+returns c = ?
+
+returns-2 : tie.Need-returns-2
+returns-2 c = ?
+
+returns-3 : tie.Need-returns-3
+returns-3 c = ?
+
+pub record-fault-spec : {M : Type 1} → statement M
+record-fault-spec =
+    tie.close
+    (tie.spec
+    (λ c κs. search needs)
+    (λ c κs. search needs)
+    (λ c κs. search needs)
+    (λ c κs. search needs)
+    returns
+    returns-2
+    returns-3)

@@ -1,0 +1,22 @@
+-- `walking::room_for` meets its contract, at 0 and above it.
+use mathlib.Core.Path.{_≡_, refl, sym, ap}
+use Prim.Native.Nat.{ℕ, zero, suc}
+use Rattle.walking.specs.Walking.{roomFor}
+use Rattle.walking.proofs.room_for.Statement.{statement}
+use Rattle.walking.proofs.room_for.Tie as tie
+
+none : (n : ℕ) → n ≡ 0 → 0 ≡ roomFor n
+none n e = sym (ap roomFor e)
+
+some : (n : ℕ) → ¬ (n ≡ 0) → 64 ≡ roomFor n
+some zero h = absurd (h refl)
+some (suc n) h = refl
+
+returns : tie.Need-returns
+returns c = none _ (c .if1 .taken)
+
+returns-2 : tie.Need-returns-2
+returns-2 c = some _ (c .if1 .left)
+
+pub room-for-spec : {M : Type 1} → statement M
+room-for-spec = tie.close (tie.spec returns returns-2)
