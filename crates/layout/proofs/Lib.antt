@@ -2,4 +2,6 @@
 pub mod Cut
 pub mod Complete
 pub mod Padded
+pub mod PlainLaws
 pub mod RecordLaws
+pub mod PutLaws

@@ -107,7 +107,7 @@ pub fn put_record(row: Row, shape: Shape, f: Formula, out: &mut [u8; 120]) -> us
     ensures bytes { λ n. ⌜ now (out .exit) ≡ sets (now (out .entry)) 0 (recordBytes row (plainBy row f)) ⌝ }
 {
     let m = table::pieces_by(row, shape.p, shape.q);
-    let n = row.head + row.width * m;
+    let n = table::length_by(row, shape.p, shape.q);
     put_head(out, n as u32, row.code, f.number, f.lo, f.hi);
     put_fields(out, row, shape);
     put_words(out, row.head, &f.words, m);

@@ -1,0 +1,24 @@
+-- A formula without the fields that its kind has not: its words, and that it is ready for its record.
+use mathlib.Core.Path.{_≡_, subst}
+use mathlib.Core.List.{List}
+use Prim.Native.Nat.{ℕ, _≤_}
+use native.Mathlib.Omega.{arith}
+use lib.ListN.{length, take, length-append, length-replicate}
+use lib.Seq.{length-take-le}
+use Rattle.formula.specs.declared.Formula.{Formula}
+use Rattle.formula.specs.Formula.{wordCount}
+use Rattle.table.specs.declared.Row.{Row}
+use Rattle.layout.specs.Fields.{padded}
+use Rattle.layout.specs.Plain.{wordsBy, wordsIn, plainShape, plainBy}
+use Rattle.layout.proofs.Padded.{take-padded}
+
+-- how many words are left
+abbrev pub plainCount : Row → Formula → ℕ
+plainCount r f = wordCount (plainShape r (f .shape) .kind) (plainShape r (f .shape) .p) (plainShape r (f .shape) .q)
+
+-- they are the formula's own
+pub plain-words : (r : Row) (f : Formula) → plainCount r f ≤ length (f .words) → wordsIn (plainBy r f) ≡ wordsBy (plainShape r (f .shape)) (f .words)
+unfolding plainBy
+plain-words r f h =
+    let m = plainCount r f in
+    subst (λ (k : ℕ). take k (padded (take m (f .words))) ≡ take m (f .words)) (length-take-le m (f .words) h) (take-padded (take m (f .words)))
