@@ -5,3 +5,5 @@ pub mod Padded
 pub mod PlainLaws
 pub mod RecordLaws
 pub mod PutLaws
+pub mod RecordBack
+pub mod BytesAgain
