@@ -6,4 +6,5 @@ pub mod PlainLaws
 pub mod RecordLaws
 pub mod PutLaws
 pub mod RecordBack
+pub mod HandedLaws
 pub mod BytesAgain

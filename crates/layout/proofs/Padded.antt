@@ -1,11 +1,13 @@
 -- Runs of words, and the array that holds one.
-use mathlib.Core.Path.{_≡_, subst}
+use mathlib.Core.Path.{_≡_, refl, sym, subst}
 use mathlib.Core.List.{List, [], _∷_, _++_, append-assoc}
-use Prim.Native.Nat.{ℕ, suc, _+_, _-_, _*_, _<_, _≤_}
+use Prim.Native.Nat.{ℕ, zero, suc, _+_, _-_, _*_, _<_, _≤_}
 use native.Mathlib.Omega.{arith}
-use lib.ListN.{length, take, set, replicate, length-append, length-replicate}
+use lib.ListN.{length, getD, take, set, replicate, length-append, length-replicate}
 use lib.Seq.{set-append-seam, take-append-seam}
 use lib.IntN.{ℤ, pos}
+use mir.Syntax.{w32}
+use mir.Val.{SFits}
 use Rattle.stored.specs.Numbers.{word4}
 use Rattle.stored.specs.Words.{words}
 use Rattle.stored.proofs.WordsLaws.{length-words, words-snoc}
@@ -14,6 +16,10 @@ use Rattle.layout.specs.Fields.{padded}
 pub length-padded : (l : List ℤ) → length l ≤ 32 → length (padded l) ≡ 32
 unfolding padded
 length-padded l h = simp (length-append, length-replicate) (omega arith)
+
+pub padded-most : (l : List ℤ) → 32 ≤ length (padded l)
+unfolding padded
+padded-most l = simp (length-append, length-replicate) (omega arith)
 
 pub take-padded : (l : List ℤ) → take (length l) (padded l) ≡ l
 unfolding padded
@@ -33,3 +39,27 @@ turn b at i a v h e f =
     let n : length (words b at i) ≡ i = length-words b at i in
     rw (e, f, words-snoc b at i) (subst (λ (k : ℕ). set (padded (words b at i)) k (word4 b (at + 4 * i)) ≡ padded (words b at i ++ (word4 b (at + 4 * i) ∷ []))) n
     (padded-more (words b at i) (word4 b (at + 4 * i)) (omega arith)))
+
+-- ---- where each word of a list fits, past whose end there is 0
+
+-- so does each of the first ones
+pub each-first : (m : ℕ) (ws : List ℤ) → ((k : ℕ) → SFits w32 (getD ws k (pos 0))) → (k : ℕ) → SFits w32 (getD (take m ws) k (pos 0))
+each-first zero ws h k = record { sfits = omega arith }
+each-first (suc m) [] h k = h k
+each-first (suc m) (z ∷ zs) h zero = h 0
+each-first (suc m) (z ∷ zs) h (suc k) = each-first m zs (λ i. h (suc i)) k
+
+-- and each of the array
+zeros : (n k : ℕ) → getD (replicate n (pos 0)) k (pos 0) ≡ pos 0
+zeros zero k = refl
+zeros (suc n) zero = refl
+zeros (suc n) (suc k) = zeros n k
+
+behind : (l : List ℤ) (n k : ℕ) → getD (l ++ replicate n (pos 0)) k (pos 0) ≡ getD l k (pos 0)
+behind [] n k = zeros n k
+behind (z ∷ l) n zero = refl
+behind (z ∷ l) n (suc k) = behind l n k
+
+pub each-padded : (l : List ℤ) → ((k : ℕ) → SFits w32 (getD l k (pos 0))) → (k : ℕ) → SFits w32 (getD (padded l) k (pos 0))
+unfolding padded
+each-padded l h k = subst (SFits w32) (sym (behind l (32 - length l) k)) (h k)

@@ -3,10 +3,10 @@ use mathlib.Core.Path.{_≡_, _∙_, refl, sym, ap, ap₂, subst}
 use mathlib.Core.List.{List, [], _∷_, _++_, append-assoc, append-nil}
 use mathlib.Core.Logic.{inl, inr}
 use mathlib.Core.Bool.{Bool, true, false, cond}
-use Prim.Native.Nat.{ℕ, zero, suc, _+_, _-_, _*_, _/_, _≤_, _<_}
+use Prim.Native.Nat.{ℕ, suc, _+_, _-_, _*_, _/_, _≤_, _<_}
 use native.Mathlib.Omega.{arith}
 use lib.Dec.{eqb}
-use lib.ListN.{length, getD, take, length-append}
+use lib.ListN.{length, getD, length-append}
 use lib.Seq.{length-take-le}
 use lib.IntN.{ℤ, pos}
 use mir.Syntax.{w32}
@@ -27,6 +27,7 @@ use Rattle.table.proofs.Rule.{short}
 use Rattle.layout.specs.Fields.{shape, formula, formulaNumber, loOf, hiOf, rowFor, wordsOf, firstCount, fieldOf, shapeOf, padded, formulaOf}
 use Rattle.layout.specs.Plain.{wordsIn}
 use Rattle.layout.specs.Bytes.{frontBytes, headBytes, fieldBytes, fieldsBytes, wordBytes, recordBytes, Ready}
+use Rattle.layout.proofs.Padded.{each-first}
 use Rattle.layout.proofs.RecordLaws.{length-front, length-head, length-field, length-fields, length-record}
 
 -- a formula that can be told from its bytes: each number fits, and what is not stored is 0
@@ -103,13 +104,6 @@ words-back a t (z ∷ zs) k f e =
     let first : word4 (a ++ (w ++ (wordBytes zs ++ t))) k ≡ z = word4-at a (wordBytes zs ++ t) z k (f 0) e in
     let rest = words-back (a ++ w) t zs (k + 4) (λ i. f (suc i)) (omega (arith, e, length-append a w, length-bytes4 (pattern z))) in
     rw (append-assoc w (wordBytes zs) t) (ap₂ (λ (y : ℤ) (l : List ℤ). y ∷ l) first (rw (append-assoc a w (wordBytes zs ++ t)) at rest))
-
--- each of the first words fits; past the last there is 0
-each-first : (m : ℕ) (ws : List ℤ) → ((k : ℕ) → SFits w32 (getD ws k (pos 0))) → (k : ℕ) → SFits w32 (getD (take m ws) k (pos 0))
-each-first zero ws h k = record { sfits = omega arith }
-each-first (suc m) [] h k = h k
-each-first (suc m) (z ∷ zs) h zero = h 0
-each-first (suc m) (z ∷ zs) h (suc k) = each-first m zs (λ i. h (suc i)) k
 
 -- ---- the record
 
