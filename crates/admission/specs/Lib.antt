@@ -1,3 +1,2 @@
--- The two refusals of admission, and what is said of lists of whole numbers.
+-- The two refusals of admission.
 pub mod Admission
-pub mod Lists

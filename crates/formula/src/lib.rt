@@ -3,7 +3,7 @@ ghost use mathlib.Core.Path.{_≡_};
 ghost use Prim.Native.Nat.{_<_, _≤_, _+_};
 ghost use lib.ListN.{length, take, drop};
 ghost use Rattle.word.specs.Words.{Scale};
-ghost use Rattle.admission.specs.Lists.{Words};
+ghost use Rattle.word.specs.Lists.{Words};
 ghost use Rattle.polynomial.specs.Polynomial.{horner, PolynomialReady};
 ghost use Rattle.rational.specs.Rational.{rationalOf, rationalAdmission, RationalReady};
 ghost use Rattle.formula.specs.Formula.{mostOf, Sound, answerOf, admissionOf, Answerable};

@@ -3,3 +3,4 @@ pub mod RoundedLaws
 pub mod WordLaws
 pub mod RootLaws
 pub mod HeronLaws
+pub mod ListLaws

@@ -5,7 +5,7 @@ use Prim.Native.Nat.{ℕ}
 use native.Mathlib.Omega.{arith}
 use lib.Seq.{length-take-le}
 use Rattle.whole.proofs.Held.{held, arg}
-use Rattle.admission.proofs.ListLaws.{words-take}
+use Rattle.word.proofs.ListLaws.{take-words}
 use Rattle.formula.specs.Formula.{mostOf, admissionBy, admissionOf}
 use Rattle.formula.specs.declared.Kind.{Kind}
 use Rattle.formula.specs.declared.Kind.the-variants.{Polynomial, Rational, Fraction}
@@ -35,7 +35,7 @@ slice-aggregate-admit c =
 admit-requires : tie.Need-admit-requires
 admit-requires c κs =
     let d = start (c .before .before .before) in
-    (d .pre .0, words-take (d .args .shape .p) (d .args .words .now) (d .pre .1 .words))
+    (d .pre .0, take-words (d .args .shape .p) (d .args .words .now) (d .pre .1 .words))
 
 admit-rational-requires : tie.Need-admit-rational-requires
 admit-rational-requires c κs =

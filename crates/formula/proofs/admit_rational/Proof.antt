@@ -4,8 +4,8 @@ use mathlib.Core.Path.{sym, ap, _∙_, subst}
 use native.Mathlib.Omega.{arith}
 use lib.ListN.{length, take, drop}
 use lib.Seq.{length-take-le}
-use Rattle.admission.specs.Lists.{Words}
-use Rattle.admission.proofs.ListLaws.{words-take, words-drop}
+use Rattle.word.specs.Lists.{Words}
+use Rattle.word.proofs.ListLaws.{take-words, drop-words}
 use Rattle.rational.specs.Rational.{rationalAdmission}
 use Rattle.formula.proofs.SoundLaws.{length-second, second-part}
 use Rattle.formula.proofs.admit_rational.Statement.{statement}
@@ -21,8 +21,8 @@ admit-requires c κs =
     let q = d .args .q in
     let ws = d .args .words .now in (
       d .pre .0,
-      words-take p ws (d .pre .1),
-      subst Words (sym (second-part p q ws)) (words-take q (drop p ws) (words-drop p ws (d .pre .1))),
+      take-words p ws (d .pre .1),
+      subst Words (sym (second-part p q ws)) (take-words q (drop p ws) (drop-words p ws (d .pre .1))),
       omega (arith, ap length (second-part p q ws), length-second p q ws (d .pre .3), d .pre .2),
     )
 
