@@ -1,6 +1,6 @@
 // Continued fractions b0 + a1·v1/(b1 + a2·v2/(b2 + ..)) over words that stand in bytes, from `at` on: b0, a1, b1, a2, ..
 ghost use mathlib.Core.Path.{_≡_};
-ghost use Prim.Native.Nat.{_+_, _*_, _^_, _<_};
+ghost use Prim.Native.Nat.{_+_, _*_, _^_, _<_, _≤_};
 ghost use Rattle.word.specs.Words.{Word, Scale, productOf};
 ghost use Rattle.stored.specs.Words.{words, Stretch};
 ghost use Rattle.fraction.specs.Fraction.{at, firstOf, restOf, nextOf, outward, fractionOf};
@@ -90,12 +90,12 @@ fn term_bound(a: i32, b: i32, v: u32, l: u32, s: u32) -> TermBound
     ensures { λ r. ⌜ r ≡ termBound s a b v l ⌝ }
 {
     let g = word::bound_product(word::magnitude(a), v, s);
-    if 2147483647 < g {
+    if word::LARGEST < g {
         return TermBound::Beyond;
     }
     let q = word::bound_quotient(g as u32, l, s);
     let c = word::magnitude(b) as u64;
-    if 2147483647 < c + q {
+    if word::LARGEST < c + q {
         return TermBound::Beyond;
     }
     if c <= q {
@@ -141,14 +141,14 @@ fn first_bound(mode: u32, most: u32, square: u32) -> u32
 
 // `most` is the larger of |lo| and |hi|.
 pub fn admit(b: &[u8], at: usize, k: usize, mode: u32, most: u32, s: u32) -> Admission
-    requires { ⌜ Stretch (now b) at (k + k + 1) × AdmissionAsked s (words (now b) at (k + k + 1)) ⌝ }
+    requires { ⌜ Stretch (now b) at (k + k + 1) × AdmissionAsked s (words (now b) at (k + k + 1)) × (most ≤ 2 ^ 31) ⌝ }
     ensures { λ r. ⌜ r ≡ fractionAdmission s most mode (words (now (b .entry)) at (k + k + 1)) k ⌝ }
 {
     if mode == 0 {
         return admit_inner(b, at, k, most, most, s);
     }
     let square = word::bound_product(most, most, s);
-    if 2147483647 < square {
+    if word::LARGEST < square {
         return Admission::RangeLeft;
     }
     let rest = square as u32;

@@ -23,6 +23,11 @@ module _ (c : tie.After-magnitude2) where
   c-is : c .magnitude2 .result ≡ natAbs (start .args .b)
   c-is = c .magnitude2 .ensures ∙ held-nat (arg (start .fits .b))
 
+bound-product-requires : tie.Need-bound-product-requires
+bound-product-requires c κs =
+    let d = c .before in
+    (d .pre .0, omega (arith, c .magnitude .ensures, held-nat (arg (d .fits .a)), d .pre .1))
+
 add-if2 : tie.Need-add-if2
 add-if2 c =
     let d = start c in
@@ -59,7 +64,7 @@ term-bound-spec =
     tie.close
     (tie.spec
     (λ c κs. search needs)
-    (λ c κs. search needs)
+    bound-product-requires
     returns
     (λ c. search needs)
     (λ c κs. search needs)
