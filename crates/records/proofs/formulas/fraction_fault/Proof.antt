@@ -81,8 +81,7 @@ admit-requires c κs =
     let w = e .before .before in
     let d = whole e in
     let a = w .before .before .args in
-    rw (shaped h)
-    (
+    rw (shaped h) (
       reach-at (a .s) (r w) (b w) d Fraction (kind-is w),
       (w .before .before .pre .0, omega (arith, depth w, d .laid .p .0)),
       omega (arith, c .most .ensures, front-most (r w) (b w) (a .seen) (a .count) (a .next) (sym (e .before .front-fault .ensures) ∙ e .if1 .left)),
