@@ -2,3 +2,4 @@
 pub mod Cut
 pub mod Complete
 pub mod Padded
+pub mod RecordLaws

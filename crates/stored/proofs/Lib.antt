@@ -2,3 +2,4 @@
 pub mod Back
 pub mod NumberLaws
 pub mod WordsLaws
+pub mod StoreLaws

@@ -1,4 +1,4 @@
-// Numbers in a slice of bytes, the lowest byte first: read at a place, and stored at one.
+// Numbers and bytes in a slice of bytes, a number with the lowest byte first: read at a place, and stored at one.
 ghost use mathlib.Core.Path.{_≡_};
 ghost use Prim.Native.Nat.{_+_, _<_, _≤_};
 ghost use lib.ListN.{length};
@@ -77,4 +77,15 @@ pub fn put_word(out: &mut [u8], at: usize, x: i32)
     ensures { λ _. ⌜ now (out .exit) ≡ sets (now (out .entry)) at (bytes4 (pattern x)) ⌝ }
 {
     put4(out, at, pattern_of(x));
+}
+
+pub fn put_bytes(out: &mut [u8], at: usize, bytes: &[u8])
+    requires { ⌜ at + length (now bytes) ≤ length (now out) ⌝ }
+    ensures { λ _. ⌜ now (out .exit) ≡ sets (now (out .entry)) at (now (bytes .entry)) ⌝ }
+{
+    let mut i: usize = 0;
+    while i < bytes.len() {
+        out[at + i] = bytes[i];
+        i += 1;
+    }
 }

@@ -1,0 +1,12 @@
+-- `layout::putting::plain_shape` meets its contract, field by field.
+use borrow.Author.Needs.{needs}
+use Rattle.layout.specs.Plain.{plainShape}
+use Rattle.layout.proofs.putting.plain_shape.Statement.{statement}
+use Rattle.layout.proofs.putting.plain_shape.Tie as tie
+
+returns : tie.Need-returns
+unfolding plainShape
+returns c = rw (c .before .before .kept .ensures, c .before .kept2 .ensures, c .kept3 .ensures)
+
+pub plain-shape-spec : {M : Type 1} → statement M
+plain-shape-spec = tie.close (tie.spec (λ c κs. search needs) (λ c κs. search needs) (λ c κs. search needs) returns)

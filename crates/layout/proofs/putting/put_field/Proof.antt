@@ -1,0 +1,17 @@
+-- `layout::putting::put_field` meets its contract: where the field is stored, and where it is not.
+use borrow.Author.Needs.{needs}
+use borrow.Author.Tests.{eq-eqb, ne-eqb}
+use Rattle.layout.specs.Bytes.{fieldBytes}
+use Rattle.layout.proofs.putting.put_field.Statement.{statement}
+use Rattle.layout.proofs.putting.put_field.Tie as tie
+
+returns : tie.Need-returns
+unfolding fieldBytes
+returns c = rw (ne-eqb _ _ (c .before .before .before .before .if1 .taken)) (c .before .before .put2 .ensures)
+
+returns-2 : tie.Need-returns-2
+unfolding fieldBytes
+returns-2 c = simp (eq-eqb _ _ (c .if1 .left))
+
+pub put-field-spec : {M : Type 1} → statement M
+put-field-spec = tie.close (tie.spec (λ c κs. search needs) (λ c. search needs) returns returns-2)
