@@ -1,19 +1,20 @@
--- When a test of admission refuses, when it passes, and what an admitted chain says of each test.
+-- When a test of admission refuses, when it passes, and what an admitted chain says of each test: by the test's two cases.
 use mathlib.Core.Path.{_≡_, refl, ap}
 use mathlib.Core.Bool.{Bool, true, false, cond}
 use Prim.Native.Nat.{ℕ, _<_, _≤_}
 use native.Mathlib.Omega.{arith}
 use lib.Dec.{ltb}
 use borrow.Author.Tests.{ltb-false, lt-ltb, le-ltb}
-use Rattle.admission.specs.Admission.{numberOf, ranged, apart}
+use Rattle.word.specs.Words.{largest}
+use Rattle.admission.specs.Admission.{admissionNumber, ranged, apart}
 use Rattle.admission.specs.declared.Admission.{Admission}
 use Rattle.admission.specs.declared.Admission.the-variants.{Admitted, RangeLeft, DivisorZero}
 
-pub ranged-yes : (n : ℕ) (a : Admission) → 2147483647 < n → ranged n a ≡ RangeLeft
-ranged-yes n a h = ap (λ (b : Bool). cond b RangeLeft a) (lt-ltb 2147483647 n h)
+pub ranged-yes : (n : ℕ) (a : Admission) → largest < n → ranged n a ≡ RangeLeft
+ranged-yes n a h = ap (λ (b : Bool). cond b RangeLeft a) (lt-ltb largest n h)
 
-pub ranged-no : (n : ℕ) (a : Admission) → n ≤ 2147483647 → ranged n a ≡ a
-ranged-no n a h = ap (λ (b : Bool). cond b RangeLeft a) (le-ltb 2147483647 n h)
+pub ranged-no : (n : ℕ) (a : Admission) → n ≤ largest → ranged n a ≡ a
+ranged-no n a h = ap (λ (b : Bool). cond b RangeLeft a) (le-ltb largest n h)
 
 pub apart-yes : (l : ℕ) (a : Admission) → l < 1 → apart l a ≡ DivisorZero
 apart-yes l a h = ap (λ (b : Bool). cond b DivisorZero a) (lt-ltb l 1 h)
@@ -22,19 +23,19 @@ pub apart-no : (l : ℕ) (a : Admission) → 1 ≤ l → apart l a ≡ a
 apart-no l a h = ap (λ (b : Bool). cond b DivisorZero a) (le-ltb l 1 h)
 
 -- ---- of an admitted chain: a test that refuses with any answer but `Admitted` was passed
-passed : (b : Bool) (r a : Admission) → 0 < numberOf r → cond b r a ≡ Admitted → (b ≡ false) × (a ≡ Admitted)
-passed true r a h e = absurd (omega (arith, ap numberOf e))
+passed : (b : Bool) (r a : Admission) → 0 < admissionNumber r → cond b r a ≡ Admitted → (b ≡ false) × (a ≡ Admitted)
+passed true r a h e = absurd (omega (arith, ap admissionNumber e))
 passed false r a h e = (refl, e)
 
-pub ranged-out : (n : ℕ) (a : Admission) → ranged n a ≡ Admitted → (n ≤ 2147483647) × (a ≡ Admitted)
-ranged-out n a e = let r = passed (ltb 2147483647 n) RangeLeft a (omega arith) e in (ltb-false 2147483647 n (r .0), r .1)
+pub ranged-out : (n : ℕ) (a : Admission) → ranged n a ≡ Admitted → (n ≤ largest) × (a ≡ Admitted)
+ranged-out n a e = let r = passed (ltb largest n) RangeLeft a (omega arith) e in (ltb-false largest n (r .0), r .1)
 
 pub apart-out : (l : ℕ) (a : Admission) → apart l a ≡ Admitted → (1 ≤ l) × (a ≡ Admitted)
 apart-out l a e = let r = passed (ltb l 1) DivisorZero a (omega arith) e in (ltb-false l 1 (r .0), r .1)
 
 -- neither 7 nor 8 is an admission
 pub left-not : RangeLeft ≡ Admitted → ⊥
-left-not e = absurd (omega (arith, ap numberOf e))
+left-not e = absurd (omega (arith, ap admissionNumber e))
 
 pub zero-not : DivisorZero ≡ Admitted → ⊥
-zero-not e = absurd (omega (arith, ap numberOf e))
+zero-not e = absurd (omega (arith, ap admissionNumber e))

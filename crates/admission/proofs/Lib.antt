@@ -1,3 +1,2 @@
 -- Laws of admission, which the kinds use.
 pub mod AdmissionLaws
-pub mod ListLaws

@@ -6,15 +6,15 @@ use Prim.Native.Nat.{ℕ}
 use lib.Dec.{ltb}
 use lib.IntN.{ℤ}
 use Rattle.word.specs.Words.{largest}
-use Rattle.admission.specs.Lists.{Words}
+use Rattle.word.specs.Lists.{Words}
 use Rattle.admission.specs.declared.Admission.{Admission}
 use Rattle.admission.specs.declared.Admission.the-variants.{Admitted, RangeLeft, DivisorZero}
 
 -- the paper's number of an answer, 0 for none
-abbrev pub numberOf : Admission → ℕ
-numberOf Admitted = 0
-numberOf RangeLeft = 7
-numberOf DivisorZero = 8
+abbrev pub admissionNumber : Admission → ℕ
+admissionNumber Admitted = 0
+admissionNumber RangeLeft = 7
+admissionNumber DivisorZero = 8
 
 -- refusal 7 where a bound n is above M, else what follows
 abbrev pub ranged : ℕ → Admission → Admission
@@ -31,14 +31,14 @@ pub record Judged (ws : List ℤ) (admission found : Admission) : Type 0 where
   pub same : Words ws → found ≡ admission
 
 -- ---- worked examples: M is in range, one more is not; a divisor of one step is apart from 0
-at-the-limit : numberOf (ranged 2147483647 Admitted) ≡ 0
+at-the-limit : admissionNumber (ranged 2147483647 Admitted) ≡ 0
 at-the-limit = refl
 
-above-the-limit : numberOf (ranged 2147483648 (apart 0 Admitted)) ≡ 7
+above-the-limit : admissionNumber (ranged 2147483648 (apart 0 Admitted)) ≡ 7
 above-the-limit = refl
 
-a-step-apart : numberOf (apart 1 Admitted) ≡ 0
+a-step-apart : admissionNumber (apart 1 Admitted) ≡ 0
 a-step-apart = refl
 
-not-apart : numberOf (apart 0 (ranged 2147483648 Admitted)) ≡ 8
+not-apart : admissionNumber (apart 0 (ranged 2147483648 Admitted)) ≡ 8
 not-apart = refl

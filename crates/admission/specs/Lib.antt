@@ -1,3 +1,2 @@
--- The two refusals of admission, and what is said of lists of whole numbers.
-pub mod Lists
+-- The two refusals of admission.
 pub mod Admission

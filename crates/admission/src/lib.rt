@@ -1,4 +1,4 @@
-// What admission answers. `numberOf` in specs/ gives the paper's number of each case.
+// What admission answers. `admissionNumber` in specs/ gives the paper's number of each case.
 pub enum Admission {
     Admitted,
     RangeLeft,

@@ -8,7 +8,7 @@ use lib.IntN.{ℤ}
 use lib.Ieee.{Float}
 use lib.Signed.{_≤ℤ_, _<ℤ_}
 use Rattle.word.specs.Words.{Word, NotZero}
-use Rattle.admission.specs.Lists.{All}
+use Rattle.word.specs.Lists.{All}
 use Rattle.formula.specs.declared.Formula.{Formula}
 use Rattle.formula.specs.Formula.{answerOf, numbersOf, divisorsOf}
 use Rattle.formula.proofs.StaysInRange.{formula-stays}

@@ -1,4 +1,4 @@
--- A double is read back from its bit pattern by the three fields, as the code takes them with shifts and masks.
+-- A double is read back from its bit pattern by the three fields, as the code takes them with shifts and masks: a shift divides, and a mask leaves the remainder.
 use mathlib.Core.Path.{_≡_, refl, sym, ap, ap₂, _∙_}
 use mathlib.Core.Bool.{Bool, true, false}
 use Prim.Native.Nat.{ℕ, _+_, _/_, _%_, _^_, _≤_, _<_}
@@ -27,8 +27,8 @@ pub fraction-most : (b : ℕ) → fraction b < hid binary64
 fraction-most b = mask-lt b 52
 
 -- the leading digit, put in
-pub leading : (b : ℕ) → bitOr (fraction b) 4503599627370496 ≡ hid binary64 + fraction b
-leading b = or-shifted-r 1 52 (fraction b) (fraction-most b)
+pub leading-digit : (b : ℕ) → bitOr (fraction b) 4503599627370496 ≡ hid binary64 + fraction b
+leading-digit b = or-shifted-r 1 52 (fraction b) (fraction-most b)
 
 sign-is : (b : ℕ) → b < 2 ^ 64 → leb (2 ^ 63) b ≡ signBit b
 sign-is b h = by (leb (2 ^ 63) b) refl

@@ -12,9 +12,9 @@ use lib.Ieee.Fits.{down-pos}
 use lib.Ieee.Bits.{ofBits-toBits}
 use lib.Ieee.Exact.{HasValue}
 use lib.Ieee.Nearest.{div-same}
-use Rattle.word.specs.Words.{unit}
+use Rattle.word.specs.Words.{unit, belowZero}
 use Rattle.door.specs.declared.answer.Ends.{Ends}
-use Rattle.door.specs.Exact.{negative, Exactly}
+use Rattle.door.specs.Exact.{Exactly}
 
 -- x / d and y / g are both a / c
 cross : (x y d g a c : ℕ) → 0 < c → x * c ≡ a * d → y * c ≡ a * g → x * g ≡ y * d
@@ -46,7 +46,7 @@ value-unique f (fin t m e) (fin u n g) s a c C p q v w =
     sym (ofBits-toBits f (fin t m e) p) ∙ ap (ofBits f) (same-bits f s t u m n e g a c C v w) ∙ ofBits-toBits f (fin u n g) q
 
 pub exactly-unique : (s : ℕ) (w : ℤ) (x y : Float) → Exactly s w x → Exactly s w y → x ≡ y
-exactly-unique s w x y p q = value-unique binary64 x y (negative w) (natAbs w) (unit s) (pow-pos s) (p .held) (q .held) (p .value) (q .value)
+exactly-unique s w x y p q = value-unique binary64 x y (belowZero w) (natAbs w) (unit s) (pow-pos s) (p .held) (q .held) (p .value) (q .value)
 
 pub ends-unique : (s : ℕ) (lo hi : ℤ) (p q : Ends) → Exactly s lo (p .low) → Exactly s hi (p .high) → Exactly s lo (q .low) → Exactly s hi (q .high) → p ≡ q
 ends-unique s lo hi p q a b c d = ap₂ (λ (x y : Float). record { low = x; high = y }) (exactly-unique s lo (p .low) (q .low) a c) (exactly-unique s hi (p .high) (q .high) b d)

@@ -14,8 +14,8 @@ use lib.Ieee.Exact.{HasValue, round-exact}
 use lib.Ieee.Back.{round-whole}
 use lib.Ieee.Scale.{round-same}
 use borrow.Author.Tests.{ne-eqb}
-use Rattle.word.specs.Words.{unit}
-use Rattle.door.specs.Exact.{negative, Exactly}
+use Rattle.word.specs.Words.{unit, belowZero}
+use Rattle.door.specs.Exact.{Exactly}
 
 room : (p e l k : ℕ) → p ≤ suc e → p + (l - k) ≤ l + suc e
 room p e l k h = omega arith
@@ -27,7 +27,7 @@ fraction-value f s a k small h =
     (lt-of-lt-of-le (shl-lt (prec f) (low f - k) small) (pow-mono (room (prec f) (emax f) (low f) k (reach f))))
     (ap (λ (z : ℕ). a * z) (ap (λ (z : ℕ). 2 ^ z) (sym (back (low f) k h)) ∙ pow-add 2 (low f - k) k) ∙ sym (mul-assoc a (2 ^ (low f - k)) (2 ^ k)))
 
-int-value : (f : Format) (w : ℤ) → natAbs w ≤ 2 ^ prec f → HasValue (ofInt f w) (negative w) (natAbs w) 1
+int-value : (f : Format) (w : ℤ) → natAbs w ≤ 2 ^ prec f → HasValue (ofInt f w) (belowZero w) (natAbs w) 1
 unfolding ofInt
 int-value f (pos n) h = round-whole f false n h
 int-value f (negsuc n) h = round-whole f true (suc n) h
@@ -54,8 +54,8 @@ quotient-is f (fin t m e) (fin u n g) s a p P v w =
 
 pub exactly-quotient : (s : ℕ) (w : ℤ) → s ≤ 53 → natAbs w < 2 ^ 53 → Exactly s w (div binary64 (ofInt binary64 w) (ofInt binary64 (pos (unit s))))
 exactly-quotient s w h small =
-    let quotient = quotient-is binary64 (ofInt binary64 w) (ofInt binary64 (pos (unit s))) (negative w) (natAbs w) (unit s) (pow-pos s) (int-value binary64 w (le-of-lt small)) (int-value binary64 (pos (unit s)) (pow-mono h)) in
+    let quotient = quotient-is binary64 (ofInt binary64 w) (ofInt binary64 (pos (unit s))) (belowZero w) (natAbs w) (unit s) (pow-pos s) (int-value binary64 w (le-of-lt small)) (int-value binary64 (pos (unit s)) (pow-mono h)) in
     record {
       held = div-fits binary64 (ofInt binary64 w) (ofInt binary64 (pos (unit s)));
-      value = subst (λ (x : Float). HasValue x (negative w) (natAbs w) (unit s)) (sym quotient) (fraction-value binary64 (negative w) (natAbs w) s small (omega arith));
+      value = subst (λ (x : Float). HasValue x (belowZero w) (natAbs w) (unit s)) (sym quotient) (fraction-value binary64 (belowZero w) (natAbs w) s small (omega arith));
     }

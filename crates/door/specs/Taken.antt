@@ -2,23 +2,18 @@
 use mathlib.Core.Path.{_≡_, refl}
 use mathlib.Core.Bool.{Bool, true, false, cond}
 use Prim.Native.Nat.{ℕ, _*_}
-use lib.IntN.{ℤ, pos, negsuc, negℤ, natAbs}
+use lib.IntN.{ℤ, pos, negsuc, natAbs}
 use lib.Dec.{leb}
 use lib.Ieee.{Float, nan, inf, fin, binary64, up, down, ofBits}
 use Rattle.word.specs.Rounded.{rounded}
-use Rattle.word.specs.Words.{largest, unit}
+use Rattle.word.specs.Words.{largest, unit, withSign}
 use Rattle.door.specs.declared.answer.Taken.{Taken}
 use Rattle.door.specs.declared.answer.Taken.the-variants.{Word, NoWord, NotFinite}
-
--- n, below zero where the sign bit is set
-abbrev pub withSign : Bool → ℕ → ℤ
-withSign true n = negℤ (pos n)
-withSign false n = pos n
 
 -- A finite double is `fin t m e`, m · 2^e with the sign t, as its sign, exponent and fraction bits say; 2^e is up e / down e, one of which is 1.
 -- So its exact value times 2^s is `numerator s t m e` divided by `down e`, which is 1 or a power of two.
 abbrev pub numerator : ℕ → Bool → ℕ → ℤ → ℤ
-numerator s t m e = withSign t (m * up e * unit s)
+numerator s t m e = withSign t (pos (m * up e * unit s))
 
 -- the argument: that fraction, rounded as a product is
 abbrev pub argumentOf : ℕ → Bool → ℕ → ℤ → ℤ

@@ -8,8 +8,8 @@ use lib.ListN.{take, drop}
 use Rattle.stored.specs.Words.{words}
 use Rattle.stored.proofs.WordsLaws.{words-all, words-both, words-take, words-drop}
 use Rattle.admission.specs.Admission.{Judged}
-use Rattle.admission.specs.Lists.{Words}
-use Rattle.admission.proofs.ListLaws.{words-append}
+use Rattle.word.specs.Lists.{Words}
+use Rattle.word.proofs.ListLaws.{words-append}
 use Rattle.admission.specs.declared.Admission.the-variants.{Admitted}
 use Rattle.polynomial.specs.Polynomial.{polynomialAdmission, boundOf}
 use Rattle.polynomial.proofs.BoundLaws.{within-words, within-out}

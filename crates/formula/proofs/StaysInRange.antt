@@ -9,7 +9,7 @@ use lib.ListN.{length, take, drop}
 use Rattle.whole.proofs.Order.{≤ℤ-trans}
 use Rattle.word.specs.Words.{Word, NotZero, Scale}
 use Rattle.word.proofs.RootLaws.{root-word}
-use Rattle.admission.specs.Lists.{All}
+use Rattle.word.specs.Lists.{All}
 use Rattle.admission.specs.declared.Admission.the-variants.{Admitted}
 use Rattle.polynomial.proofs.StaysInRange.{polynomial-stays}
 use Rattle.rational.proofs.StaysInRange.{rational-stays}

@@ -2,7 +2,7 @@
 use mathlib.Core.List.{List, [], _∷_, map}
 use Prim.Native.Nat.{ℕ, _*_}
 use lib.IntN.{ℤ, pos, negℤ}
-use Rattle.admission.specs.Admission.{numberOf}
+use Rattle.admission.specs.Admission.{admissionNumber}
 use Rattle.formula.specs.Formula.{answerOf, admissionOf}
 use Rattle.formula.specs.declared.Kind.the-variants.{Polynomial, Rational, Fraction, Root}
 use Rattle.formula.specs.declared.Shape.{Shape}
@@ -23,7 +23,7 @@ pub record Found : Type 0 where
   pub refused : ℕ
 
 abbrev pub found : Row → Found
-found r = record { answered = map (answerOf 24 (r .shape) (r .words)) (r .arguments); refused = numberOf (admissionOf 24 (r .shape) (r .lo) (r .hi) (r .words)) }
+found r = record { answered = map (answerOf 24 (r .shape) (r .words)) (r .arguments); refused = admissionNumber (admissionOf 24 (r .shape) (r .lo) (r .hi) (r .words)) }
 
 abbrev pub paper : Row → Found
 paper r = record { answered = r .answers; refused = r .refusal }

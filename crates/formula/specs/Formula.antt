@@ -9,8 +9,8 @@ use lib.Signed.{_≤ℤ_}
 use lib.ListN.{length, take, drop}
 use Rattle.word.specs.Words.{Word, Scale}
 use Rattle.word.specs.Root.{rootWord}
+use Rattle.word.specs.Lists.{Words}
 use Rattle.stored.specs.Words.{words, Stretch}
-use Rattle.admission.specs.Lists.{Words}
 use Rattle.admission.specs.declared.Admission.{Admission}
 use Rattle.admission.specs.declared.Admission.the-variants.{Admitted, RangeLeft}
 use Rattle.polynomial.specs.Polynomial.{horner, polynomialNumbers, polynomialAdmission}

@@ -7,7 +7,7 @@ use lib.IntN.{ℤ, natAbs}
 use Rattle.whole.proofs.Order.{abs-add, abs-least}
 use Rattle.word.specs.Words.{Word, NotZero, productOf, quotientOf, boundProduct}
 use Rattle.word.proofs.WordLaws.{product-within, quotient-within}
-use Rattle.admission.specs.Lists.{All}
+use Rattle.word.specs.Lists.{All}
 use Rattle.admission.specs.declared.Admission.the-variants.{Admitted}
 use Rattle.admission.proofs.AdmissionLaws.{ranged-out, apart-out}
 use Rattle.fraction.specs.Fraction.{bAt, aAfter, at, firstOf, restOf, nextOf, outwardNumbers, outwardDivisors, fractionNumbers, fractionDivisors}

@@ -7,7 +7,7 @@ use lib.Dec.{ltb}
 use lib.IntN.{ℤ, pos, negsuc, natAbs}
 use Rattle.word.specs.Rounded.{roundedUp}
 use Rattle.word.specs.Words.{largest, boundProduct, boundQuotient}
-use Rattle.admission.specs.Admission.{numberOf, ranged, apart}
+use Rattle.admission.specs.Admission.{admissionNumber, ranged, apart}
 use Rattle.admission.specs.declared.Admission.{Admission}
 use Rattle.admission.specs.declared.Admission.the-variants.{Admitted}
 use Rattle.fraction.specs.Fraction.{bAt, aAfter, at, firstOf}
@@ -58,15 +58,15 @@ judgedTerm s a b v L = cond (ltb largest (natAbs a)) Beyond (termBound s a b v L
 abbrev thirds : List ℤ
 thirds = pos 0 ∷ pos 16777216 ∷ pos 16777216 ∷ negsuc 16777215 ∷ pos 50331648 ∷ []
 
-to-two : numberOf (fractionAdmission 24 33554432 0 thirds 2) ≡ 0
+to-two : admissionNumber (fractionAdmission 24 33554432 0 thirds 2) ≡ 0
 unfolding admitFrom roundedUp
 to-two = refl
 
-to-three : numberOf (fractionAdmission 24 50331648 0 thirds 2) ≡ 8
+to-three : admissionNumber (fractionAdmission 24 50331648 0 thirds 2) ≡ 8
 unfolding admitFrom roundedUp
 to-three = refl
 
 -- the square of 12 is no word, though mode 2 with depth 1 never uses it
-square-left : numberOf (fractionAdmission 24 201326592 2 (pos 0 ∷ pos 1 ∷ pos 16777216 ∷ []) 1) ≡ 7
+square-left : admissionNumber (fractionAdmission 24 201326592 2 (pos 0 ∷ pos 1 ∷ pos 16777216 ∷ []) 1) ≡ 7
 unfolding admitFrom roundedUp
 square-left = refl

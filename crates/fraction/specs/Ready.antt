@@ -5,7 +5,7 @@ use Prim.Native.Nat.{ℕ, _+_, _<_, _≤_}
 use lib.IntN.{ℤ, natAbs}
 use lib.ListN.{length}
 use Rattle.word.specs.Words.{Word, NotZero, Scale, productOf, quotientOf}
-use Rattle.admission.specs.Lists.{All, Words}
+use Rattle.word.specs.Lists.{All, Words}
 use Rattle.admission.specs.declared.Admission.the-variants.{Admitted}
 use Rattle.fraction.specs.Fraction.{nextOf, outwardNumbers, outwardDivisors}
 use Rattle.fraction.specs.Admission.{fractionAdmission}

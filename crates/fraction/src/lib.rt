@@ -1,6 +1,6 @@
 // Continued fractions b0 + a1·v1/(b1 + a2·v2/(b2 + ..)) over words that stand in bytes, from `at` on: b0, a1, b1, a2, ..
 ghost use mathlib.Core.Path.{_≡_};
-ghost use Prim.Native.Nat.{_+_, _*_, _^_, _<_};
+ghost use Prim.Native.Nat.{_+_, _*_, _^_, _<_, _≤_};
 ghost use Rattle.word.specs.Words.{Word, Scale, productOf};
 ghost use Rattle.stored.specs.Words.{words, Stretch};
 ghost use Rattle.admission.specs.Admission.{Judged};
@@ -91,16 +91,16 @@ fn term_bound(a: i32, b: i32, v: u32, l: u32, s: u32) -> TermBound
     ensures { λ r. ⌜ r ≡ judgedTerm s a b v l ⌝ }
 {
     let size = word::magnitude(a);
-    if 2147483647 < size {
+    if word::LARGEST < size as u64 {
         return TermBound::Beyond;
     }
     let g = word::bound_product(size, v, s);
-    if 2147483647 < g {
+    if word::LARGEST < g {
         return TermBound::Beyond;
     }
     let q = word::bound_quotient(g as u32, l, s);
     let c = word::magnitude(b) as u64;
-    if 2147483647 < c + q {
+    if word::LARGEST < c + q {
         return TermBound::Beyond;
     }
     if c <= q {
@@ -116,7 +116,7 @@ fn admit_inner(b: &[u8], at: usize, k: usize, first: u32, rest: u32, s: u32) -> 
 {
     let mut j = k;
     let mut l = word::magnitude(stored::get_word(b, at + 8 * k));
-    if 2147483647 < l {
+    if word::LARGEST < l as u64 {
         return Admission::RangeLeft;
     }
     if l == 0 {
@@ -155,14 +155,14 @@ fn first_bound(mode: u32, most: u32, square: u32) -> u32
 
 // `most` is the larger of |lo| and |hi|.
 pub fn admit(b: &[u8], at: usize, k: usize, mode: u32, most: u32, s: u32) -> Admission
-    requires { ⌜ Stretch (now b) at (k + k + 1) × AdmissionAsked s k ⌝ }
+    requires { ⌜ Stretch (now b) at (k + k + 1) × AdmissionAsked s k × (most ≤ 2 ^ 31) ⌝ }
     ensures { λ r. ⌜ Judged (words (now (b .entry)) at (k + k + 1)) (fractionAdmission s most mode (words (now (b .entry)) at (k + k + 1)) k) r ⌝ }
 {
     if mode == 0 {
         return admit_inner(b, at, k, most, most, s);
     }
     let square = word::bound_product(most, most, s);
-    if 2147483647 < square {
+    if word::LARGEST < square {
         return Admission::RangeLeft;
     }
     let rest = square as u32;

@@ -13,7 +13,7 @@ use borrow.Author.Tests.{ltb-false, lt-ltb, le-ltb}
 use Rattle.word.specs.Words.{unit, boundProduct}
 use Rattle.word.proofs.RoundedLaws.{up-least}
 use Rattle.word.proofs.WordLaws.{unit-pos}
-use Rattle.admission.specs.Lists.{Words}
+use Rattle.word.specs.Lists.{Words}
 use Rattle.admission.specs.declared.Admission.{Admission}
 use Rattle.admission.specs.declared.Admission.the-variants.{Admitted}
 use Rattle.admission.proofs.AdmissionLaws.{left-not}

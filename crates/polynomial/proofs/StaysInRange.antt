@@ -5,7 +5,7 @@ use Prim.Native.Nat.{ℕ, suc, _≤_}
 use native.Mathlib.Omega.{arith}
 use lib.IntN.{ℤ, natAbs}
 use Rattle.word.specs.Words.{Word}
-use Rattle.admission.specs.Lists.{All}
+use Rattle.word.specs.Lists.{All}
 use Rattle.admission.specs.declared.Admission.the-variants.{Admitted}
 use Rattle.polynomial.specs.Polynomial.{bound, boundOf, polynomialNumbers, polynomialAdmission, InRange}
 use Rattle.polynomial.proofs.WalkLaws.{running-size, product-bound}

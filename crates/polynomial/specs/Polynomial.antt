@@ -8,7 +8,7 @@ use lib.IntN.{ℤ, pos, negsuc, natAbs, _+ℤ_}
 use lib.ListN.{length, drop}
 use Rattle.word.specs.Rounded.{rounded, roundedUp}
 use Rattle.word.specs.Words.{largest, Word, Scale, productOf, boundProduct}
-use Rattle.admission.specs.Admission.{numberOf}
+use Rattle.admission.specs.Admission.{admissionNumber}
 use Rattle.admission.specs.declared.Admission.{Admission}
 use Rattle.admission.specs.declared.Admission.the-variants.{Admitted, RangeLeft}
 use Rattle.polynomial.specs.declared.Bounding.{Bounding}
@@ -76,10 +76,10 @@ unfolding horner rounded
 parabola = refl
 
 -- M plus one step times x: x may be 0, but not one step
-not-a-step : numberOf (polynomialAdmission 24 1 (pos 2147483647 ∷ pos 1 ∷ [])) ≡ 7
+not-a-step : admissionNumber (polynomialAdmission 24 1 (pos 2147483647 ∷ pos 1 ∷ [])) ≡ 7
 unfolding boundOf roundedUp
 not-a-step = refl
 
-only-zero : numberOf (polynomialAdmission 24 0 (pos 2147483647 ∷ pos 1 ∷ [])) ≡ 0
+only-zero : admissionNumber (polynomialAdmission 24 0 (pos 2147483647 ∷ pos 1 ∷ [])) ≡ 0
 unfolding boundOf roundedUp
 only-zero = refl

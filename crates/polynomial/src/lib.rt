@@ -36,7 +36,7 @@ pub fn bound(b: &[u8], at: usize, m: usize, most: u32, s: u32) -> Bounding
         i -= 1;
         let c = stored::get_word(b, at + 4 * i);
         let n = (word::magnitude(c) as u64) + word::bound_product(low, most, s);
-        if 2147483647 < n {
+        if word::LARGEST < n {
             return Bounding::Beyond;
         }
         low = n as u32;

@@ -9,10 +9,10 @@ use Rattle.whole.proofs.Order.{abs-least}
 use Rattle.word.specs.Words.{Word, NotZero, productOf, boundQuotient}
 use Rattle.word.proofs.WordLaws.{quotient-within}
 use Rattle.admission.specs.Admission.{apart}
-use Rattle.admission.specs.Lists.{All}
+use Rattle.word.specs.Lists.{All}
 use Rattle.admission.specs.declared.Admission.the-variants.{Admitted}
 use Rattle.admission.proofs.AdmissionLaws.{ranged-out, apart-out}
-use Rattle.admission.proofs.ListLaws.{all-append}
+use Rattle.word.proofs.ListLaws.{all-append}
 use Rattle.polynomial.specs.Polynomial.{horner, polynomialNumbers, boundOf, InRange}
 use Rattle.polynomial.proofs.WalkLaws.{horner-drop, running-size, product-bound, in-range-less}
 use Rattle.polynomial.proofs.BoundLaws.{within-is, within-range, within-out}

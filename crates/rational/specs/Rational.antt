@@ -6,7 +6,7 @@ use lib.IntN.{ℤ, pos, negsuc, natAbs}
 use lib.ListN.{length, getD, drop}
 use Rattle.word.specs.Rounded.{rounded, roundedUp}
 use Rattle.word.specs.Words.{Word, Scale, quotientOf, boundProduct, boundQuotient}
-use Rattle.admission.specs.Admission.{numberOf, ranged, apart}
+use Rattle.admission.specs.Admission.{admissionNumber, ranged, apart}
 use Rattle.admission.specs.declared.Admission.{Admission}
 use Rattle.admission.specs.declared.Admission.the-variants.{Admitted}
 use Rattle.polynomial.specs.Polynomial.{horner, polynomialNumbers, bound, boundOf, whenWithin}
@@ -66,10 +66,10 @@ at-one : rationalOf 24 top bottom (pos 16777216) ≡ pos 45538158
 unfolding horner rounded
 at-one = refl
 
-to-one : numberOf (rationalAdmission 24 16777216 top bottom) ≡ 0
+to-one : admissionNumber (rationalAdmission 24 16777216 top bottom) ≡ 0
 unfolding bound boundOf roundedUp
 to-one = refl
 
-to-two : numberOf (rationalAdmission 24 33554432 top bottom) ≡ 8
+to-two : admissionNumber (rationalAdmission 24 33554432 top bottom) ≡ 8
 unfolding bound boundOf roundedUp
 to-two = refl

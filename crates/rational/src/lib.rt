@@ -23,13 +23,13 @@ fn admit_ratio(top: u32, first: u32, rest: u32, most: u32, s: u32) -> Admission
 {
     let d = first as u64;
     let g = word::bound_product(rest, most, s);
-    if 2147483647 < d + g {
+    if word::LARGEST < d + g {
         return Admission::RangeLeft;
     }
     if d <= g {
         return Admission::DivisorZero;
     }
-    if 2147483647 < word::bound_quotient(top, (d - g) as u32, s) {
+    if word::LARGEST < word::bound_quotient(top, (d - g) as u32, s) {
         return Admission::RangeLeft;
     }
     Admission::Admitted

@@ -8,11 +8,12 @@ use lib.Dec.{eqb}
 use lib.ListN.{length}
 use borrow.Author.Tests.{eqb-true, eqb-false}
 use Rattle.stored.specs.Words.{words, Stretch}
-use Rattle.admission.specs.Admission.{numberOf, Judged}
+use Rattle.admission.specs.Admission.{admissionNumber, Judged}
 use Rattle.admission.specs.declared.Admission.{Admission}
 use Rattle.formula.specs.declared.Kind.{Kind}
 use Rattle.formula.specs.declared.Kind.the-variants.{Polynomial, Rational, Fraction, Root, NoFormula}
 use Rattle.formula.specs.Formula.{mostOf, wordCount, admissionBy, admissionOf}
+use Rattle.formula.proofs.IntervalLaws.{most-word}
 use Rattle.table.specs.Table.{rows, firstRow, rowOf}
 use Rattle.table.specs.Codes.{codeFor}
 use Rattle.table.specs.Rule.{Ruled}
@@ -23,10 +24,10 @@ use Rattle.table.specs.declared.Row.{Row}
 use Rattle.layout.specs.Fields.{codeOf, rowFor, formulaNumber, shapeOf, loOf, hiOf, wordsOf, Complete}
 use Rattle.layout.proofs.Complete.{complete, reach, by-length}
 use Rattle.records.specs.Guard.{orElse}
-use Rattle.records.specs.Faults.{lengthFault, orderFault, wordsFault, ownFault, admissionFault, judgedFault, valueFault, formulaFault, frontFault, onlyFormula}
+use Rattle.records.specs.Faults.{lengthFault, orderFault, wordFault, wordsFault, intervalFault, ownFault, admissionFault, judgedFault, valueFault, formulaFault, frontFault, onlyFormula}
 use Rattle.records.proofs.Chain.{stop, pass, neither, or-assoc}
 use Rattle.records.proofs.Lengths.{laid}
-use Rattle.records.proofs.Values.{judged-fault}
+use Rattle.records.proofs.Values.{word, judged-fault}
 
 module _ (s : ℕ) (r : Row) (b : List ℕ) (seen count next : ℕ) where
   -- 6 of the words, then 7 or 8
@@ -51,6 +52,14 @@ module _ (s : ℕ) (r : Row) (b : List ℕ) (seen count next : ℕ) where
 pub front-length : (r : Row) (b : List ℕ) (seen count next : ℕ) → frontFault r b seen count next ≡ 0 → lengthFault r b ≡ 0
 unfolding frontFault
 front-length r b seen count next e = neither (lengthFault r b) _ e .0
+
+-- and two words as the ends, so that A is a word's size
+pub front-most : (r : Row) (b : List ℕ) (seen count next : ℕ) → frontFault r b seen count next ≡ 0 → mostOf (loOf b) (hiOf b) ≤ 2147483647
+unfolding frontFault ownFault intervalFault
+front-most r b seen count next e =
+    let o = neither (orderFault seen count next (formulaNumber b)) _ (neither (lengthFault r b) _ e .1) .1 in
+    let l = neither (wordFault (loOf b)) _ (neither (intervalFault (loOf b) (hiOf b)) _ o .0) in
+    most-word (loOf b) (hiOf b) (word (loOf b) (l .0)) (word (hiOf b) (neither (wordFault (hiOf b)) _ (l .1) .0))
 
 -- so the record is complete
 pub front-complete : (r : Row) (b : List ℕ) (seen count next : ℕ) → Ruled r → r .class ≡ FormulaRecord → length b ≤ 120 → frontFault r b seen count next ≡ 0 → Complete r b
@@ -90,7 +99,7 @@ module _ (s : ℕ) (b : List ℕ) (seen count next : ℕ) where
   no-words r e = at (eqb (frontFault r b seen count next) 0) refl
     where
       none : 0 ≡ orElse (wordsFault (wordsOf r b)) (admissionFault s (shapeOf r b) (loOf b) (hiOf b) (wordsOf r b))
-      none = subst (λ (k : Kind). 0 ≡ orElse (wordsFault (words b (r .head) (wordCount k (shapeOf r b .p) (shapeOf r b .q)))) (numberOf (admissionBy k s (mostOf (loOf b) (hiOf b)) (shapeOf r b .p) (shapeOf r b .q) (shapeOf r b .mode) (words b (r .head) (wordCount k (shapeOf r b .p) (shapeOf r b .q)))))) (sym e) refl
+      none = subst (λ (k : Kind). 0 ≡ orElse (wordsFault (words b (r .head) (wordCount k (shapeOf r b .p) (shapeOf r b .q)))) (admissionNumber (admissionBy k s (mostOf (loOf b) (hiOf b)) (shapeOf r b .p) (shapeOf r b .q) (shapeOf r b .mode) (words b (r .head) (wordCount k (shapeOf r b .p) (shapeOf r b .q)))))) (sym e) refl
 
       at : (t : Bool) → eqb (frontFault r b seen count next) 0 ≡ t → frontFault r b seen count next ≡ formulaFault s r b seen count next
       at true z = let f = eqb-true _ _ z in front-passes s r b seen count next refl f (f ∙ none)

@@ -9,7 +9,7 @@ use lib.ListN.{length}
 use lib.IntN.{ℤ, pos}
 use lib.Signed.{ltZ, ltZ-no, _≤ℤ_}
 use Rattle.stored.proofs.WordsLaws.{length-words}
-use Rattle.admission.specs.Admission.{numberOf}
+use Rattle.admission.specs.Admission.{admissionNumber}
 use Rattle.admission.specs.declared.Admission.{Admission}
 use Rattle.admission.specs.declared.Admission.the-variants.{Admitted, RangeLeft, DivisorZero}
 use Rattle.formula.specs.declared.Kind.{Kind}
@@ -61,7 +61,7 @@ pub admitted : (s : ℕ) (r : Row) (h : Shape) (lo hi : ℤ) (ws : List ℤ) →
 unfolding valueFault
 admitted s r h lo hi ws e = none (admissionOf s h lo hi ws) (neither (wordsFault ws) _ (neither (ownFault r h lo hi) _ e .1) .1)
   where
-    none : (a : Admission) → numberOf a ≡ 0 → a ≡ Admitted
+    none : (a : Admission) → admissionNumber a ≡ 0 → a ≡ Admitted
     none Admitted z = refl
     none RangeLeft z = absurd (omega arith)
     none DivisorZero z = absurd (omega arith)

@@ -14,8 +14,8 @@ use mir.Syntax.{w32}
 use mir.Val.{SFits}
 use borrow.Author.Tests.{lt-ltb, le-ltb, ltb-true, ltb-false, eqb-true}
 use Rattle.word.specs.Words.{Word}
-use Rattle.admission.specs.Lists.{Words}
-use Rattle.admission.specs.Admission.{numberOf, Judged}
+use Rattle.word.specs.Lists.{Words}
+use Rattle.admission.specs.Admission.{admissionNumber, Judged}
 use Rattle.admission.specs.declared.Admission.{Admission}
 use Rattle.admission.specs.declared.Admission.the-variants.{Admitted, RangeLeft, DivisorZero}
 use Rattle.records.specs.Guard.{orElse}
@@ -80,18 +80,18 @@ all-words [] h = refl
 all-words (z ∷ l) h = rw (le-ltb 2147483647 (natAbs z) (h 0)) (all-words l (λ i. h (suc i)))
 
 -- ---- by what admission has found: 6 of the words, then its number
-pub judged-fault : (ws : List ℤ) (a found : Admission) → Judged ws a found → judgedFault ws found ≡ orElse (wordsFault ws) (numberOf a)
+pub judged-fault : (ws : List ℤ) (a found : Admission) → Judged ws a found → judgedFault ws found ≡ orElse (wordsFault ws) (admissionNumber a)
 judged-fault ws a found j = at found refl
   where
     -- a number that refuses, where the words have no fault of their own
-    refuses : (n : ℕ) → (Words ws → n ≡ numberOf a) → orElse (wordsFault ws) n ≡ orElse (wordsFault ws) (numberOf a)
+    refuses : (n : ℕ) → (Words ws → n ≡ admissionNumber a) → orElse (wordsFault ws) n ≡ orElse (wordsFault ws) (admissionNumber a)
     refuses n h = by (eqb (wordsFault ws) 0) refl
       where
-        by : (t : Bool) → eqb (wordsFault ws) 0 ≡ t → cond t n (wordsFault ws) ≡ cond t (numberOf a) (wordsFault ws)
+        by : (t : Bool) → eqb (wordsFault ws) 0 ≡ t → cond t n (wordsFault ws) ≡ cond t (admissionNumber a) (wordsFault ws)
         by true q = h (each-word ws (eqb-true _ _ q))
         by false q = refl
 
-    at : (f : Admission) → found ≡ f → judgedFault ws f ≡ orElse (wordsFault ws) (numberOf a)
-    at Admitted e = let w = j .words e in pass refl (all-words ws w) (ap numberOf (sym e ∙ j .same w))
-    at RangeLeft e = refuses 7 (λ w. ap numberOf (sym e ∙ j .same w))
-    at DivisorZero e = refuses 8 (λ w. ap numberOf (sym e ∙ j .same w))
+    at : (f : Admission) → found ≡ f → judgedFault ws f ≡ orElse (wordsFault ws) (admissionNumber a)
+    at Admitted e = let w = j .words e in pass refl (all-words ws w) (ap admissionNumber (sym e ∙ j .same w))
+    at RangeLeft e = refuses 7 (λ w. ap admissionNumber (sym e ∙ j .same w))
+    at DivisorZero e = refuses 8 (λ w. ap admissionNumber (sym e ∙ j .same w))

@@ -9,7 +9,7 @@ use lib.IntN.{ℤ, pos, negsuc, natAbs}
 use lib.Signed.{ltZ}
 use Rattle.word.specs.Words.{largest}
 use Rattle.stored.specs.Numbers.{number2, number4}
-use Rattle.admission.specs.Admission.{numberOf}
+use Rattle.admission.specs.Admission.{admissionNumber}
 use Rattle.admission.specs.declared.Admission.{Admission}
 use Rattle.admission.specs.declared.Admission.the-variants.{Admitted, RangeLeft, DivisorZero}
 use Rattle.formula.specs.declared.Kind.{Kind}
@@ -93,7 +93,7 @@ scaleFault s = cond (ltb s 16) 6 (cond (ltb 28 s) 6 0)
 
 -- ---- 7 or 8, as Admission meets them
 abbrev pub admissionFault : ℕ → Shape → ℤ → ℤ → List ℤ → ℕ
-admissionFault s h lo hi ws = numberOf (admissionOf s h lo hi ws)
+admissionFault s h lo hi ws = admissionNumber (admissionOf s h lo hi ws)
 
 -- 6; 7 or 8, of a formula's fields and of a record's own bytes
 unfoldable pub valueFault : ℕ → Row → Shape → ℤ → ℤ → List ℤ → ℕ

@@ -71,11 +71,13 @@ fn order_fault(seen: u16, count: u16, next: u32, number: u16) -> u8
     0
 }
 
-// -2147483648 is the one pattern that is no word.
+// The least word. Below it stands the one pattern that is no word.
+const LEAST: i32 = -(word::LARGEST as i32);
+
 fn word_fault(x: i32) -> u8
     ensures { λ r. ⌜ r ≡ wordFault x ⌝ }
 {
-    if x < -2147483647 {
+    if x < LEAST {
         return 6;
     }
     0

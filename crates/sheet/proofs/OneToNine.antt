@@ -1,217 +1,246 @@
--- Promise: any bytes are accepted, or refused by one of 1 to 9; a number asked for is refused by these or by 11.
-use mathlib.Core.Path.{_≡_, refl}
+-- Promise: any bytes are accepted, or refused by one of a sheet's refusals; a number asked for is refused by these or by 11.
+-- Each test of a record gives 0 or one of a record's refusals, and so do tests one behind the other: that is shown once, by small laws of `cond` and `orElse`.
+use mathlib.Core.Path.{_≡_, refl, subst}
 use mathlib.Core.List.{List, [], _∷_}
 use mathlib.Core.Logic.{_⊎_, inl, inr}
-use mathlib.Core.Bool.{Bool, true, false, cond}
-use Prim.Native.Nat.{ℕ, zero, suc, _+_, _-_, _≤_}
-use native.Mathlib.Omega.{arith}
-use lib.Dec.{T, leb, eqb, ltb, leb→le}
+use mathlib.Core.Bool.{Bool, true, false, cond, not, _||_}
+use Prim.Native.Nat.{ℕ, zero, suc, _-_}
+use lib.Dec.{T, eqb, ltb}
 use lib.ListN.{length}
 use lib.IntN.{ℤ, pos, natAbs}
 use lib.Signed.{ltZ}
-use borrow.Author.Tests.{eqb-false}
+use borrow.Author.Tests.{eq-eqb, eqb-true, eqb-false}
+use Rattle.stored.specs.Numbers.{number4}
 use Rattle.admission.specs.declared.Admission.{Admission}
 use Rattle.admission.specs.declared.Admission.the-variants.{Admitted, RangeLeft, DivisorZero}
-use Rattle.admission.specs.Admission.{numberOf}
+use Rattle.admission.specs.Admission.{admissionNumber}
 use Rattle.formula.specs.declared.Kind.{Kind}
 use Rattle.formula.specs.declared.Kind.the-variants.{Polynomial, Rational, Fraction, Root, NoFormula}
-use Rattle.formula.specs.declared.Formula.{Formula}
+use Rattle.formula.specs.declared.Shape.{Shape}
 use Rattle.formula.specs.Formula.{admissionOf}
 use Rattle.table.specs.declared.Class.{Class}
 use Rattle.table.specs.declared.Class.the-variants.{StartRecord, FormulaRecord, EndRecord, Unknown}
 use Rattle.table.specs.declared.Field.{Field}
 use Rattle.table.specs.declared.Row.{Row}
 use Rattle.table.specs.Table.{lengthBy}
-use Rattle.layout.specs.Fields.{countOf, formulaNumber, shapeOf, formulaOf}
-use Rattle.layout.specs.Numbers.{number4}
+use Rattle.layout.specs.Fields.{rowFor, countOf, formulaNumber, loOf, hiOf, shapeOf, wordsOf}
 use Rattle.records.specs.Guard.{guard, orElse, refusal}
-use Rattle.records.specs.Faults.{frameFault, bytesAt, rowFor, placeFault, outside, countFault, sizeFault, lengthFault, startFault, orderFault, endFault, wordFault, wordsFault, intervalFault, kindFault, valueFault, places, innerFault, classFault, recordFault}
-use Rattle.records.specs.declared.walk.Walk.{Walk}
-use Rattle.walking.specs.Walking.{refused, ending, classStep, recordStep, begin, onStep, stepOf, walkFrom, walkOf}
+use Rattle.records.specs.Faults.{frameFault, outside, countFault, sizeFault, lengthFault, startFault, scaleFault, orderFault, endFault, wordFault, wordsFault, intervalFault, kindFault, ownFault, valueFault, innerFault}
+use Rattle.records.specs.Refusals.{OneOf, recordRefusals, sheetRefusals}
+use Rattle.walking.specs.Walking.{placeFault, classFault, recordFault, recordHere, faultAt, begin, ending, onward, runDone, walkFrom, walkOf}
+use Rattle.walking.specs.declared.Walk.{Walk}
 use Rattle.walking.specs.declared.Walked.{Walked}
 use Rattle.walking.specs.declared.Walked.the-variants.{Whole, Broken}
-use Rattle.walking.specs.declared.Step.{Step}
-use Rattle.walking.specs.declared.Step.the-variants.{More, Done}
-use Rattle.sheet.specs.Reader.{countNumber, formulaCount, noNumber, countAnswer, foundNumber, withheld, placeAnswer, formulaPlace, readAt, formulaRead, Accepted, NotAccepted}
+use Rattle.sheet.specs.Reader.{countNumber, formulaCount, noNumber, countAnswer, placeNumber, placeAnswer, formulaPlace, readerRefusals, Accepted, NotAccepted}
 
--- ---- no fault is above 8
+-- ---- a list of numbers, by tests that are computed
 
-small : (t : Bool) (a : ℕ) {b : ℕ} → T (leb a 8) → b ≤ 8 → cond t a b ≤ 8
-small true a h k = leb→le a 8 h
-small false a h k = k
+abbrev among : List ℕ → ℕ → Bool
+among [] n = false
+among (k ∷ ks) n = eqb n k || among ks n
 
-first : (a b : ℕ) → a ≤ 8 → b ≤ 8 → orElse a b ≤ 8
-first a b h k = at (eqb a 0)
+one-of : (l : List ℕ) (n : ℕ) → T (among l n) → OneOf l n
+one-of [] n t = absurd t
+one-of (k ∷ ks) n t = at (one-of ks n) (eqb n k) refl t
   where
-    at : (t : Bool) → cond t b a ≤ 8
-    at true = k
-    at false = h
+    at : (T (among ks n) → OneOf ks n) → (b : Bool) → eqb n k ≡ b → T (b || among ks n) → (n ≡ k) ⊎ OneOf ks n
+    at ih true e h = inl (eqb-true n k e)
+    at ih false e h = inr (ih h)
 
-none : 0 ≤ 8
-none = omega arith
+not-zero : (l : List ℕ) (n : ℕ) → T (not (among l 0)) → OneOf l n → n ≡ 0 → ⊥
+not-zero l n t h z = clash (among l 0) t (found l (subst (OneOf l) z h))
+  where
+    clash : (b : Bool) → T (not b) → T b → ⊥
+    clash true f g = f
+    clash false f g = g
 
-two : 2 ≤ 8
-two = omega arith
+    found : (l : List ℕ) → OneOf l 0 → T (among l 0)
+    found [] h = h
+    found (k ∷ ks) (inl e) = rw (eq-eqb 0 k e) tt
+    found (k ∷ ks) (inr h) = later (eqb 0 k) (found ks h)
+      where
+        later : (b : Bool) → T (among ks 0) → T (b || among ks 0)
+        later true g = tt
+        later false g = g
 
-three : 3 ≤ 8
-three = omega arith
+-- ---- a fault is 0, or one of a record's refusals
 
-four : 4 ≤ 8
-four = omega arith
+abbrev faults : List ℕ
+faults = 0 ∷ recordRefusals
 
-frame : (s : List ℕ) (at : ℕ) → frameFault s at ≤ 8
+abbrev Fault : ℕ → Type 0
+Fault n = OneOf faults n
+
+fault : (n : ℕ) → T (among faults n) → Fault n
+fault n t = one-of faults n t
+
+none : Fault 0
+none = fault 0 tt
+
+test : (t : Bool) {a b : ℕ} → Fault a → Fault b → Fault (cond t a b)
+test true h k = h
+test false h k = k
+
+first : (a b : ℕ) → Fault a → Fault b → Fault (orElse a b)
+first a b h k = test (eqb a 0) k h
+
+-- ---- each test of a record
+
+frame : (bytes : List ℕ) (at : ℕ) → Fault (frameFault bytes at)
 unfolding frameFault
-frame s at =
-    small (ltb (length s - at) 4) 1 tt
-    (small (ltb (number4 s at) 8) 2 tt (small (ltb 120 (number4 s at)) 2 tt (small (ltb (length s - at) (number4 s at)) 1 tt none)))
+frame bytes at =
+    test (ltb (length bytes - at) 4) (fault 1 tt)
+    (test (ltb (number4 bytes at) 8) (fault 2 tt)
+    (test (ltb 120 (number4 bytes at)) (fault 2 tt)
+    (test (ltb (length bytes - at) (number4 bytes at)) (fault 1 tt) none)))
 
-place : (k : Class) (at : ℕ) → placeFault k at ≤ 8
-place StartRecord at = small (eqb at 0) 0 tt three
-place FormulaRecord at = small (eqb at 0) 3 tt none
-place EndRecord at = small (eqb at 0) 3 tt none
-place Unknown at = three
+place : (from : ℕ) (k : Class) (at : ℕ) → Fault (placeFault from k at)
+place from StartRecord at = test (eqb at 0) none (fault 3 tt)
+place from FormulaRecord at = test (eqb at 0) (fault 3 tt) none
+place from EndRecord at = test (eqb at 0) (fault 3 tt) (test (eqb from 0) none (fault 3 tt))
+place from Unknown at = fault 3 tt
 
-out : (f : Field) (n k : ℕ) → T (leb k 8) → outside f n k ≤ 8
+out : (f : Field) (n k : ℕ) → Fault k → Fault (outside f n k)
 unfolding outside
-out f n k h = small (ltb n (f .least)) k h (small (ltb (f .most) n) k h none)
+out f n k h = test (ltb n (f .least)) h (test (ltb (f .most) n) h none)
 
-size : (r : Row) (b : List ℕ) → lengthFault r b ≤ 8
+size : (r : Row) (b : List ℕ) → Fault (lengthFault r b)
 unfolding lengthFault sizeFault countFault
 size r b =
     let p = shapeOf r b .p in
     let q = shapeOf r b .q in
-    small (ltb (length b) (r .head)) 2 tt
-    (first _ _ (first _ _ (out (r .p) p 2 tt) (out (r .q) q 2 tt)) (small (eqb (lengthBy r p q) (length b)) 0 tt two))
+    test (ltb (length b) (r .head)) (fault 2 tt)
+    (first _ _ (first _ _ (out (r .p) p 2 (fault 2 tt)) (out (r .q) q 2 (fault 2 tt))) (test (eqb (lengthBy r p q) (length b)) none (fault 2 tt)))
 
-start : (c : ℕ) → startFault c ≤ 8
+start : (r : Row) (c : ℕ) → Fault (startFault r c)
 unfolding startFault
-start c = small (ltb c 1) 4 tt (small (ltb 64 c) 4 tt none)
+start r c = out (r .count) c 4 (fault 4 tt)
 
-order : (w : Walk) (n : ℕ) → orderFault w n ≤ 8
+scale : (s : ℕ) → Fault (scaleFault s)
+unfolding scaleFault
+scale s = test (ltb s 16) (fault 6 tt) (test (ltb 28 s) (fault 6 tt) none)
+
+order : (seen count next n : ℕ) → Fault (orderFault seen count next n)
 unfolding orderFault
-order w n = small (eqb (w .seen) (w .count)) 4 tt (small (ltb n (w .next)) 5 tt none)
+order seen count next n = test (eqb seen count) (fault 4 tt) (test (ltb n next) (fault 5 tt) none)
 
-finish : (w : Walk) (c : ℕ) → endFault w c ≤ 8
+finish : (seen count c : ℕ) → Fault (endFault seen count c)
 unfolding endFault
-finish w c = at (eqb (w .seen) (w .count))
-  where
-    at : (t : Bool) → cond t (cond (eqb c (w .count)) 0 4) 4 ≤ 8
-    at true = small (eqb c (w .count)) 0 tt four
-    at false = four
+finish seen count c = test (eqb seen count) (test (eqb c count) none (fault 4 tt)) (fault 4 tt)
 
-word : (z : ℤ) → wordFault z ≤ 8
-word z = small (ltb 2147483647 (natAbs z)) 6 tt none
+word : (z : ℤ) → Fault (wordFault z)
+word z = test (ltb 2147483647 (natAbs z)) (fault 6 tt) none
 
-words : (l : List ℤ) → wordsFault l ≤ 8
+words : (l : List ℤ) → Fault (wordsFault l)
 unfolding wordsFault
-words [] = omega arith
+words [] = none
 words (z ∷ l) = first (wordFault z) (wordsFault l) (word z) (words l)
 
-kind : (k : Kind) (lo : ℤ) → kindFault k lo ≤ 8
-kind Polynomial lo = omega arith
-kind Rational lo = omega arith
-kind Fraction lo = omega arith
-kind Root lo = small (ltZ lo (pos 0)) 6 tt none
-kind NoFormula lo = omega arith
+kind : (k : Kind) (lo : ℤ) → Fault (kindFault k lo)
+kind Polynomial lo = none
+kind Rational lo = none
+kind Fraction lo = none
+kind Root lo = test (ltZ lo (pos 0)) (fault 6 tt) none
+kind NoFormula lo = none
 
-admission : (a : Admission) → numberOf a ≤ 8
-admission Admitted = omega arith
-admission RangeLeft = omega arith
-admission DivisorZero = omega arith
+own : (r : Row) (h : Shape) (lo hi : ℤ) → Fault (ownFault r h lo hi)
+unfolding ownFault intervalFault
+own r h lo hi =
+    first _ _ (first _ _ (word lo) (first _ _ (word hi) (test (ltZ hi lo) (fault 6 tt) none)))
+    (first _ _ (out (r .mode) (h .mode) 6 (fault 6 tt)) (kind (r .kind) lo))
 
-inner : (r : Row) (f : Formula) → innerFault r f ≤ 8
-unfolding innerFault valueFault intervalFault
-inner r f =
-    first _ _ (first _ _ (first _ _ (word (f .lo)) (first _ _ (word (f .hi)) (small (ltZ (f .hi) (f .lo)) 6 tt none)))
-    (first _ _ (out (r .mode) _ 6 tt) (first _ _ (kind (r .kind) (f .lo)) (words (f .words)))))
-    (admission (admissionOf places (f .shape) (f .lo) (f .hi) (f .words)))
+admission : (a : Admission) → Fault (admissionNumber a)
+admission Admitted = none
+admission RangeLeft = fault 7 tt
+admission DivisorZero = fault 8 tt
 
-content : (k : Class) (r : Row) (b : List ℕ) (w : Walk) → classFault k r b w ≤ 8
-content StartRecord r b w = start (countOf b)
-content FormulaRecord r b w = first (orderFault w (formulaNumber b)) _ (order w (formulaNumber b)) (inner r (formulaOf r b))
-content EndRecord r b w = finish w (countOf b)
-content Unknown r b w = omega arith
+inner : (s : ℕ) (r : Row) (b : List ℕ) → Fault (innerFault s r b)
+unfolding valueFault
+inner s r b =
+    let h = shapeOf r b in
+    let ws = wordsOf r b in
+    first _ _ (own r h (loOf b) (hiOf b)) (first _ _ (words ws) (admission (admissionOf s h (loOf b) (hiOf b) ws)))
 
-whole : (r : Row) (b : List ℕ) (w : Walk) → recordFault r b w ≤ 8
-unfolding recordFault
-whole r b w = first _ _ (place (r .class) (w .at)) (first _ _ (size r b) (content (r .class) r b w))
+content : (s : ℕ) (k : Class) (r : Row) (b : List ℕ) (w : Walk) → Fault (classFault s k r b w)
+content s StartRecord r b w = first _ _ (start r (countOf b)) (scale s)
+content s FormulaRecord r b w = first _ _ (order (w .seen) (w .count) (w .next) (formulaNumber b)) (inner s r b)
+content s EndRecord r b w = finish (w .seen) (w .count) (countOf b)
+content s Unknown r b w = none
 
--- ---- so no step and no walk is refused by another number
+whole : (s : ℕ) (bytes : List ℕ) (from : ℕ) (w : Walk) → Fault (faultAt s bytes from w)
+unfolding faultAt recordFault
+whole s bytes from w =
+    let b = recordHere bytes from w in
+    let r = rowFor b in
+    first _ _ (frame bytes (w .at - from)) (first _ _ (place from (r .class) (w .at)) (first _ _ (size r b) (content s (r .class) r b w)))
+
+-- ---- so no walk is refused by another number
 
 abbrev Numbered : Walked → Type 0
 Numbered (Whole c k) = Unit
-Numbered (Broken r) = (1 ≤ r .number) × (r .number ≤ 9)
+Numbered (Broken r) = OneOf sheetRefusals (r .number)
 
-abbrev NumberedStep : Step → Type 0
-NumberedStep (More w) = Unit
-NumberedStep (Done r) = Numbered r
-
-guarded : (fault at : ℕ) (t : Step) → fault ≤ 8 → NumberedStep t → NumberedStep (guard fault (refused at) t)
-guarded fault at t h k = go (eqb fault 0) refl
+guarded : (fault at : ℕ) (x : Walked) → Fault fault → Numbered x → Numbered (guard fault (λ n. Broken (refusal at n)) x)
+guarded fault at x h k = go (eqb fault 0) refl h
   where
-    go : (b : Bool) → eqb fault 0 ≡ b → NumberedStep (cond b t (refused at fault))
-    go true e = k
-    go false e = let n = eqb-false fault 0 e in (omega (arith, n), omega arith)
+    go : (b : Bool) → eqb fault 0 ≡ b → Fault fault → Numbered (cond b x (Broken (refusal at fault)))
+    go true e h = k
+    go false e (inl z) = absurd (eqb-false fault 0 e z)
+    go false e (inr h) = inr h
 
 end : (w : Walk) (place n : ℕ) → Numbered (ending w place n)
 unfolding ending
 end w place n = go (ltb place n)
   where
     go : (b : Bool) → Numbered (cond b (Broken (refusal place 9)) (Whole (w .count) (w .found)))
-    go true = (omega arith, omega arith)
+    go true = one-of sheetRefusals 9 tt
     go false = tt
 
-class : (k : Class) (b : List ℕ) (w : Walk) (n : ℕ) → NumberedStep (classStep k b w n)
-class StartRecord b w n = tt
-class FormulaRecord b w n = tt
-class EndRecord b w n = end w (w .at + length b) n
-class Unknown b w n = (omega arith, omega arith)
-
-step : (s : List ℕ) (w : Walk) → NumberedStep (stepOf s w)
-unfolding stepOf recordStep
-step s w =
-    let b = bytesAt s (w .at) in
-    guarded (frameFault s (w .at)) (w .at) _ (frame s (w .at)) (guarded (recordFault (rowFor b) b w) (w .at) _ (whole (rowFor b) b w) (class (rowFor b .class) b w (length s)))
-
-walks : (n : ℕ) (s : List ℕ) (w : Walk) → Numbered (walkFrom n s w)
+walks : (k s : ℕ) (bytes : List ℕ) (from : ℕ) (w : Walk) → Numbered (walkFrom k s bytes from w)
 unfolding walkFrom
-walks zero s w = (omega arith, omega arith)
-walks (suc n) s w = at (walks n s) (stepOf s w) (step s w)
+walks zero s bytes from w = one-of sheetRefusals 4 tt
+walks (suc k) s bytes from w = by (runDone bytes from w)
   where
-    at : ((v : Walk) → Numbered (walkFrom n s v)) → (t : Step) → NumberedStep t → Numbered (onStep (walkFrom n s) t)
-    at ih (More v) h = ih v
-    at ih (Done r) h = h
+    past : (c : Class) → Numbered (onward (walkFrom k s bytes from) c (recordHere bytes from w) w (length bytes))
+    past StartRecord = walks k s bytes from _
+    past FormulaRecord = walks k s bytes from _
+    past EndRecord = end w _ (length bytes)
+    past Unknown = one-of sheetRefusals 3 tt
 
-numbered : (s : List ℕ) (asked : ℕ) → Numbered (walkOf s asked)
+    by : (t : Bool) → Numbered (cond t (Whole (w .seen) (w .found)) (guard (faultAt s bytes from w) (λ n. Broken (refusal (w .at) n)) (onward (walkFrom k s bytes from) (rowFor (recordHere bytes from w) .class) (recordHere bytes from w) w (length bytes))))
+    by true = tt
+    by false = guarded (faultAt s bytes from w) (w .at) _ (whole s bytes from w) (past (rowFor (recordHere bytes from w) .class))
+
+numbered : (s : ℕ) (bytes : List ℕ) (from asked : ℕ) → Numbered (walkOf s bytes from asked)
 unfolding walkOf
-numbered s asked = walks 66 s (begin asked)
+numbered s bytes from asked = walks 66 s bytes from (begin from asked)
 
 -- ---- the count
 
-pub one-to-nine : (s : List ℕ) → Accepted s ⊎ NotAccepted s
+pub one-to-nine : (s : ℕ) (bytes : List ℕ) → Accepted s bytes ⊎ NotAccepted s bytes
 unfolding formulaCount
-one-to-nine s = at (walkOf s noNumber) (numbered s noNumber)
+one-to-nine s bytes = at (walkOf s bytes 0 noNumber) (numbered s bytes 0 noNumber)
   where
-    at : (r : Walked) → Numbered r → (countNumber (countAnswer r) ≡ 0) ⊎ ((1 ≤ countNumber (countAnswer r)) × (countNumber (countAnswer r) ≤ 9))
+    at : (r : Walked) → Numbered r → (countNumber (countAnswer r) ≡ 0) ⊎ OneOf sheetRefusals (countNumber (countAnswer r))
     at (Whole c k) h = inl refl
     at (Broken r) h = inr h
 
 -- an accepted sheet has a count, and the walk that gave it
-pub accepted : (s : List ℕ) → Accepted s → (c : ℕ) × (k : ℕ) × (walkOf s noNumber ≡ Whole c k)
+pub accepted : (s : ℕ) (bytes : List ℕ) → Accepted s bytes → (c : ℕ) × (k : ℕ) × (walkOf s bytes 0 noNumber ≡ Whole c k)
 unfolding formulaCount
-accepted s e = at (walkOf s noNumber) refl (numbered s noNumber) e
+accepted s bytes e = at (walkOf s bytes 0 noNumber) refl (numbered s bytes 0 noNumber) e
   where
-    at : (r : Walked) → walkOf s noNumber ≡ r → Numbered r → countNumber (countAnswer r) ≡ 0 → (c : ℕ) × (k : ℕ) × (walkOf s noNumber ≡ Whole c k)
+    at : (r : Walked) → walkOf s bytes 0 noNumber ≡ r → Numbered r → countNumber (countAnswer r) ≡ 0 → (c : ℕ) × (k : ℕ) × (walkOf s bytes 0 noNumber ≡ Whole c k)
     at (Whole c k) q h p = (c, k, q)
-    at (Broken r) q h p = absurd (omega (arith, h .0))
+    at (Broken r) q h p = absurd (not-zero sheetRefusals (r .number) tt h p)
 
--- ---- the formula
+-- ---- the formula, and its place
 
-pub or-eleven : (s : List ℕ) (n : ℕ) → (foundNumber (formulaRead s n .found) ≤ 9) ⊎ (formulaRead s n ≡ withheld (refusal 0 11))
-unfolding formulaRead formulaPlace
-or-eleven s n = at (walkOf s n) (numbered s n)
+pub or-eleven : (s : ℕ) (bytes : List ℕ) (n : ℕ) → (placeNumber (formulaPlace s bytes n) ≡ 0) ⊎ OneOf readerRefusals (placeNumber (formulaPlace s bytes n))
+unfolding formulaPlace
+or-eleven s bytes n = at (walkOf s bytes 0 n) (numbered s bytes 0 n)
   where
-    at : (r : Walked) → Numbered r → (foundNumber (readAt s (placeAnswer r) .found) ≤ 9) ⊎ (readAt s (placeAnswer r) ≡ withheld (refusal 0 11))
-    at (Whole c zero) h = inr refl
-    at (Whole c (suc k)) h = inl (omega arith)
-    at (Broken r) h = inl (h .1)
+    at : (r : Walked) → Numbered r → (placeNumber (placeAnswer r) ≡ 0) ⊎ OneOf readerRefusals (placeNumber (placeAnswer r))
+    at (Whole c zero) h = inr (inl refl)
+    at (Whole c (suc k)) h = inl refl
+    at (Broken r) h = inr (inr h)

@@ -1,4 +1,5 @@
 -- Promise: whatever number is asked for, a sheet that is refused is refused by the same number at the same place.
+-- No fault depends on the number that is asked for, so a walk that asks for nothing goes the same way.
 use mathlib.Core.Path.{_≡_, _∙_, refl, sym, ap}
 use mathlib.Core.List.{List}
 use mathlib.Core.Bool.{Bool, true, false, cond}
@@ -9,96 +10,82 @@ use lib.ListN.{length}
 use Rattle.table.specs.declared.Class.{Class}
 use Rattle.table.specs.declared.Class.the-variants.{StartRecord, FormulaRecord, EndRecord, Unknown}
 use Rattle.table.specs.declared.Row.{Row}
+use Rattle.layout.specs.Fields.{rowFor}
 use Rattle.records.specs.Guard.{guard, refusal}
-use Rattle.records.specs.Faults.{frameFault, bytesAt, rowFor, orderFault, endFault, classFault, recordFault}
-use Rattle.records.specs.declared.refusal.Refusal.{Refusal}
-use Rattle.records.specs.declared.walk.Walk.{Walk}
-use Rattle.walking.specs.Walking.{walk, refused, ending, classStep, recordStep, begin, onStep, stepOf, walkFrom, walkOf}
+use Rattle.records.specs.declared.Refusal.{Refusal}
+use Rattle.walking.specs.Walking.{walk, ending, classFault, recordFault, recordHere, faultAt, begin, onward, walkFrom, walkOf}
+use Rattle.walking.specs.declared.Walk.{Walk}
 use Rattle.walking.specs.declared.Walked.{Walked}
 use Rattle.walking.specs.declared.Walked.the-variants.{Whole, Broken}
-use Rattle.walking.specs.declared.Step.{Step}
-use Rattle.walking.specs.declared.Step.the-variants.{More, Done}
 use Rattle.sheet.specs.declared.answers.Place.{Place}
 use Rattle.sheet.specs.declared.answers.Place.the-variants.{At as StandsAt, Refused as Absent}
 use Rattle.sheet.specs.Reader.{placeNumber, placePlace, foundNumber, foundPlace, countAnswer, noNumber, formulaCount, withheld, placeAnswer, formulaPlace, readAt, formulaRead}
+use Rattle.sheet.specs.declared.answers.FormulaCount.{FormulaCount}
 use Rattle.sheet.specs.declared.answers.FormulaCount.the-variants.{Refused}
 
 -- a walk that asks for nothing
 abbrev plain : Walk → Walk
 plain w = walk (w .at) (w .count) (w .seen) (w .next) 0 0
 
-abbrev plainStep : Step → Step
-plainStep (More w) = More (plain w)
-plainStep (Done (Whole c k)) = Done (Whole c 0)
-plainStep (Done (Broken r)) = Done (Broken r)
+class-fault : (s : ℕ) (k : Class) (r : Row) (b : List ℕ) (w : Walk) → classFault s k r b (plain w) ≡ classFault s k r b w
+class-fault s StartRecord r b w = refl
+class-fault s FormulaRecord r b w = refl
+class-fault s EndRecord r b w = refl
+class-fault s Unknown r b w = refl
 
-class-fault : (k : Class) (r : Row) (b : List ℕ) (w : Walk) → classFault k r b (plain w) ≡ classFault k r b w
-unfolding orderFault endFault
-class-fault StartRecord r b w = refl
-class-fault FormulaRecord r b w = refl
-class-fault EndRecord r b w = refl
-class-fault Unknown r b w = refl
+fault-at : (s : ℕ) (bytes : List ℕ) (w : Walk) → faultAt s bytes 0 (plain w) ≡ faultAt s bytes 0 w
+unfolding faultAt recordFault
+fault-at s bytes w =
+    let b = recordHere bytes 0 w in
+    rw (class-fault s (rowFor b .class) (rowFor b) b w)
 
-record-fault : (r : Row) (b : List ℕ) (w : Walk) → recordFault r b (plain w) ≡ recordFault r b w
-unfolding recordFault
-record-fault r b w = rw (class-fault (r .class) r b w)
-
-class-step : (k : Class) (b : List ℕ) (w : Walk) (n : ℕ) → plainStep (classStep k b (plain w) n) ≡ plainStep (classStep k b w n)
+at-end : (w : Walk) (place n : ℕ) → countAnswer (ending (plain w) place n) ≡ countAnswer (ending w place n)
 unfolding ending
-class-step StartRecord b w n = refl
-class-step FormulaRecord b w n = refl
-class-step EndRecord b w n = at (ltb (w .at + length b) n)
+at-end w place n = at (ltb place n)
   where
-    at : (t : Bool) → plainStep (Done (cond t (Broken (refusal (w .at + length b) 9)) (Whole (w .count) 0)))
-        ≡ plainStep (Done (cond t (Broken (refusal (w .at + length b) 9)) (Whole (w .count) (w .found))))
+    at : (t : Bool) → countAnswer (cond t (Broken (refusal place 9)) (Whole (w .count) 0)) ≡ countAnswer (cond t (Broken (refusal place 9)) (Whole (w .count) (w .found)))
     at true = refl
     at false = refl
-class-step Unknown b w n = refl
 
-guarded : (fault at : ℕ) (t u : Step) → plainStep t ≡ plainStep u → plainStep (guard fault (refused at) t) ≡ plainStep (guard fault (refused at) u)
-guarded fault at t u e = go (eqb fault 0)
+guarded : (fault at : ℕ) (x y : Walked) → countAnswer x ≡ countAnswer y → countAnswer (guard fault (λ n. Broken (refusal at n)) x) ≡ countAnswer (guard fault (λ n. Broken (refusal at n)) y)
+guarded fault at x y e = go (eqb fault 0)
   where
-    go : (b : Bool) → plainStep (cond b t (refused at fault)) ≡ plainStep (cond b u (refused at fault))
+    go : (b : Bool) → countAnswer (cond b x (Broken (refusal at fault))) ≡ countAnswer (cond b y (Broken (refusal at fault)))
     go true = e
     go false = refl
 
-step : (s : List ℕ) (w : Walk) → plainStep (stepOf s (plain w)) ≡ plainStep (stepOf s w)
-unfolding stepOf recordStep
-step s w =
-    let b = bytesAt s (w .at) in
-    let r = rowFor b in
-    guarded (frameFault s (w .at)) (w .at) _ _
-    (rw (record-fault r b w) (guarded (recordFault r b w) (w .at) (classStep (r .class) b (plain w) (length s)) (classStep (r .class) b w (length s)) (class-step (r .class) b w (length s))))
-
-walks : (n : ℕ) (s : List ℕ) (w : Walk) → countAnswer (walkFrom n s (plain w)) ≡ countAnswer (walkFrom n s w)
+walks : (k s : ℕ) (bytes : List ℕ) (w : Walk) → countAnswer (walkFrom k s bytes 0 (plain w)) ≡ countAnswer (walkFrom k s bytes 0 w)
 unfolding walkFrom
-walks zero s w = refl
-walks (suc n) s w =
-    sym (through (walks n s) (stepOf s (plain w))) ∙ ap (λ (t : Step). countAnswer (onStep (walkFrom n s) t)) (step s w) ∙ through (walks n s) (stepOf s w)
+walks zero s bytes w = refl
+walks (suc k) s bytes w = rw (fault-at s bytes w) (guarded (faultAt s bytes 0 w) (w .at) _ _ (past (walks k s bytes) (rowFor b .class)))
   where
-    through : ((v : Walk) → countAnswer (walkFrom n s (plain v)) ≡ countAnswer (walkFrom n s v)) → (t : Step)
-        → countAnswer (onStep (walkFrom n s) (plainStep t)) ≡ countAnswer (onStep (walkFrom n s) t)
-    through ih (More v) = ih v
-    through ih (Done (Whole c k)) = refl
-    through ih (Done (Broken r)) = refl
+    abbrev b : List ℕ
+    b = recordHere bytes 0 w
 
-pub same-walk : (s : List ℕ) (n : ℕ) → countAnswer (walkOf s n) ≡ formulaCount s
+    past : ((v : Walk) → countAnswer (walkFrom k s bytes 0 (plain v)) ≡ countAnswer (walkFrom k s bytes 0 v)) → (c : Class)
+        → countAnswer (onward (walkFrom k s bytes 0) c b (plain w) (length bytes)) ≡ countAnswer (onward (walkFrom k s bytes 0) c b w (length bytes))
+    past ih StartRecord = sym (ih _) ∙ ih _
+    past ih FormulaRecord = sym (ih _) ∙ ih _
+    past ih EndRecord = at-end w (w .at + length b) (length bytes)
+    past ih Unknown = refl
+
+pub same-walk : (s : ℕ) (bytes : List ℕ) (n : ℕ) → countAnswer (walkOf s bytes 0 n) ≡ formulaCount s bytes
 unfolding walkOf formulaCount
-same-walk s n = sym (walks 66 s (begin n)) ∙ walks 66 s (begin noNumber)
+same-walk s bytes n = sym (walks 66 s bytes (begin 0 n)) ∙ walks 66 s bytes (begin 0 noNumber)
 
-pub same-refusal : (s : List ℕ) (n : ℕ) (r : Refusal) → formulaCount s ≡ Refused r → formulaRead s n ≡ withheld r
+pub same-refusal : (s : ℕ) (bytes : List ℕ) (n : ℕ) (r : Refusal) → formulaCount s bytes ≡ Refused r → formulaRead s bytes n ≡ withheld r
 unfolding formulaRead formulaPlace
-same-refusal s n r e = at (walkOf s n) (same-walk s n ∙ e)
+same-refusal s bytes n r e = at (walkOf s bytes 0 n) (same-walk s bytes n ∙ e)
   where
-    at : (x : Walked) → countAnswer x ≡ Refused r → readAt s (placeAnswer x) ≡ withheld r
+    at : (x : Walked) → countAnswer x ≡ Refused r → readAt bytes (placeAnswer x) ≡ withheld r
     at (Whole c k) q = absurd (let z : _≡_ {A = ℕ} 0 1 = cc in omega arith)
     at (Broken r′) q = ap withheld cc
 
 -- and a place is refused as its formula is
-pub place-number : (s : List ℕ) (n : ℕ) → (placeNumber (formulaPlace s n) ≡ foundNumber (formulaRead s n .found)) × (placePlace (formulaPlace s n) ≡ foundPlace (formulaRead s n .found))
+pub place-number : (s : ℕ) (bytes : List ℕ) (n : ℕ) → (placeNumber (formulaPlace s bytes n) ≡ foundNumber (formulaRead s bytes n .found)) × (placePlace (formulaPlace s bytes n) ≡ foundPlace (formulaRead s bytes n .found))
 unfolding formulaRead
-place-number s n = at (formulaPlace s n)
+place-number s bytes n = at (formulaPlace s bytes n)
   where
-    at : (p : Place) → (placeNumber p ≡ foundNumber (readAt s p .found)) × (placePlace p ≡ foundPlace (readAt s p .found))
+    at : (p : Place) → (placeNumber p ≡ foundNumber (readAt bytes p .found)) × (placePlace p ≡ foundPlace (readAt bytes p .found))
     at (StandsAt k) = (refl, refl)
     at (Absent r) = (refl, refl)

@@ -1,21 +1,23 @@
--- What the reader answers: the formula count of a sheet, and the formula of a number.
-use Prim.Native.Nat.{ℕ, zero, suc, _≤_}
+-- What the reader answers, at s binary places: the formula count of a sheet, and the formula of a number.
+use Prim.Native.Nat.{ℕ, zero, suc}
 use mathlib.Core.Path.{_≡_, refl}
 use mathlib.Core.List.{List, [], _∷_}
-use lib.ListN.{length, replicate}
-use lib.IntN.{pos}
+use lib.ListN.{take, replicate}
+use lib.IntN.{ℤ, pos, negsuc}
+use Rattle.word.specs.Words.{Scale}
+use Rattle.stored.specs.Numbers.{number2, number4}
 use Rattle.admission.specs.declared.Admission.the-variants.{Admitted}
-use Rattle.formula.specs.declared.Kind.the-variants.{NoFormula}
+use Rattle.formula.specs.declared.Kind.the-variants.{Polynomial, NoFormula}
 use Rattle.formula.specs.declared.Formula.{Formula}
-use Rattle.formula.specs.Formula.{Sound, admissionOf}
-use Rattle.table.specs.Table.{rows, firstRow, rowOf, wordsBy}
-use Rattle.layout.specs.Numbers.{number2, number4}
-use Rattle.layout.specs.Fields.{firstCount, fieldOf, shape, shapeOf, padded, formula, formulaOf}
-use Rattle.records.specs.Faults.{places, frameFault, bytesAt, rowFor, outside, countFault, sizeFault, lengthFault, startFault, recordFault}
+use Rattle.formula.specs.Formula.{wordCount, Sound, admissionOf}
+use Rattle.table.specs.Table.{rows, firstRow, rowOf, piecesBy}
+use Rattle.layout.specs.Fields.{bytesAt, Reaches, rowFor, firstCount, fieldOf, shape, shapeOf, padded, formula, formulaOf}
+use Rattle.records.specs.Faults.{frameFault, outside, countFault, sizeFault, lengthFault, startFault, scaleFault}
 use Rattle.records.specs.Guard.{refusal}
+use Rattle.records.specs.Refusals.{OneOf, sheetRefusals}
 use Rattle.records.specs.Sheets.{FormulaBytes}
-use Rattle.records.specs.declared.refusal.Refusal.{Refusal}
-use Rattle.walking.specs.Walking.{recordStep, stepOf, walkFrom, walkOf}
+use Rattle.records.specs.declared.Refusal.{Refusal}
+use Rattle.walking.specs.Walking.{recordFault, faultAt, walkFrom, walkOf}
 use Rattle.walking.specs.declared.Walked.{Walked}
 use Rattle.walking.specs.declared.Walked.the-variants.{Whole, Broken}
 use Rattle.sheet.specs.declared.answers.FormulaCount.{FormulaCount}
@@ -55,7 +57,7 @@ abbrev pub foundPlace : Found → ℕ
 foundPlace Given = 0
 foundPlace (Withheld r) = r .place
 
--- ---- the count: 1 to 9
+-- ---- the count, or a sheet's refusal
 abbrev pub countAnswer : Walked → FormulaCount
 countAnswer (Whole c k) = Count c
 countAnswer (Broken r) = Refused r
@@ -64,16 +66,19 @@ countAnswer (Broken r) = Refused r
 abbrev pub noNumber : ℕ
 noNumber = 65536
 
-unfoldable pub formulaCount : List ℕ → FormulaCount
-formulaCount s = countAnswer (walkOf s noNumber)
+unfoldable pub formulaCount : ℕ → List ℕ → FormulaCount
+formulaCount s bytes = countAnswer (walkOf s bytes 0 noNumber)
 
-abbrev pub Accepted : List ℕ → Type 0
-Accepted s = countNumber (formulaCount s) ≡ 0
+abbrev pub Accepted : ℕ → List ℕ → Type 0
+Accepted s bytes = countNumber (formulaCount s bytes) ≡ 0
 
-abbrev pub NotAccepted : List ℕ → Type 0
-NotAccepted s = (1 ≤ countNumber (formulaCount s)) × (countNumber (formulaCount s) ≤ 9)
+abbrev pub NotAccepted : ℕ → List ℕ → Type 0
+NotAccepted s bytes = OneOf sheetRefusals (countNumber (formulaCount s bytes))
 
--- ---- where the formula of a number stands: 1 to 9, then 11. 0 is the start's place, so no formula's
+-- ---- where the formula of a number stands: a sheet's refusals, then 11. 0 is the start's place, so no formula's
+abbrev pub readerRefusals : List ℕ
+readerRefusals = 11 ∷ sheetRefusals
+
 abbrev pub placeFound : ℕ → Place
 placeFound zero = Absent (refusal 0 11)
 placeFound (suc k) = At (suc k)
@@ -82,8 +87,8 @@ abbrev pub placeAnswer : Walked → Place
 placeAnswer (Whole c k) = placeFound k
 placeAnswer (Broken r) = Absent r
 
-unfoldable pub formulaPlace : List ℕ → ℕ → Place
-formulaPlace s n = placeAnswer (walkOf s n)
+unfoldable pub formulaPlace : ℕ → List ℕ → ℕ → Place
+formulaPlace s bytes n = placeAnswer (walkOf s bytes 0 n)
 
 -- ---- the formula, with the same refusals
 unfoldable pub noFormula : Formula
@@ -96,28 +101,33 @@ abbrev pub withheld : Refusal → Reading
 withheld r = reading (Withheld r) noFormula
 
 abbrev pub formulaAt : List ℕ → ℕ → Formula
-formulaAt s place = formulaOf (rowFor (bytesAt s place)) (bytesAt s place)
+formulaAt bytes place = formulaOf (rowFor (bytesAt bytes place)) (bytesAt bytes place)
 
 abbrev pub readAt : List ℕ → Place → Reading
-readAt s (At k) = reading Given (formulaAt s k)
-readAt s (Absent r) = withheld r
+readAt bytes (At k) = reading Given (formulaAt bytes k)
+readAt bytes (Absent r) = withheld r
 
-unfoldable pub formulaRead : List ℕ → ℕ → Reading
-formulaRead s n = readAt s (formulaPlace s n)
+unfoldable pub formulaRead : ℕ → List ℕ → ℕ → Reading
+formulaRead s bytes n = readAt bytes (formulaPlace s bytes n)
 
-abbrev pub Answered : List ℕ → ℕ → Type 0
-Answered s n = foundNumber (formulaRead s n .found) ≡ 0
+-- the sheet is accepted and has a formula of the number n
+abbrev pub HasFormula : ℕ → List ℕ → ℕ → Type 0
+HasFormula s bytes n = foundNumber (formulaRead s bytes n .found) ≡ 0
+
+-- ---- a formula's words without the zeros behind them: as many as its kind and counts ask for
+abbrev pub wordsIn : Formula → List ℤ
+wordsIn f = take (wordCount (f .shape .kind) (f .shape .p) (f .shape .q)) (f .words)
 
 -- a formula that is sound and admitted
-pub record Fit (f : Formula) : Type 0 where
-  pub sound : Sound (f .shape) (f .lo) (f .hi) (f .words)
-  pub admitted : admissionOf places (f .shape) (f .lo) (f .hi) (f .words) ≡ Admitted
+pub record Fit (s : ℕ) (f : Formula) : Type 0 where
+  pub sound : Sound (f .shape) (f .lo) (f .hi) (wordsIn f)
+  pub admitted : admissionOf s (f .shape) (f .lo) (f .hi) (wordsIn f) ≡ Admitted
 
 -- a formula record without fault stands at a place
-pub record Standing (s : List ℕ) (place : ℕ) : Type 0 where
-  pub within : place ≤ length s
-  pub frame : frameFault s place ≡ 0
-  pub bytes : FormulaBytes (bytesAt s place)
+pub record FormulaStands (s : ℕ) (bytes : List ℕ) (place : ℕ) : Type 0 where
+  pub scale : Scale s
+  pub reach : Reaches bytes place
+  pub here : FormulaBytes s (bytesAt bytes place)
 
 -- ---- worked examples: empty input; eight zeros; a start alone, the bytes stopping after it; an end first
 abbrev startOnly : List ℕ
@@ -126,6 +136,16 @@ startOnly = 8 ∷ 0 ∷ 0 ∷ 0 ∷ 1 ∷ 0 ∷ 1 ∷ 0 ∷ []
 abbrev endOnly : List ℕ
 endOnly = 8 ∷ 0 ∷ 0 ∷ 0 ∷ 255 ∷ 255 ∷ 1 ∷ 0 ∷ []
 
-refusals : (formulaCount [] ≡ Refused (refusal 0 1)) × (formulaCount (replicate 8 0) ≡ Refused (refusal 0 2)) × (formulaCount startOnly ≡ Refused (refusal 8 1)) × (formulaCount endOnly ≡ Refused (refusal 0 3))
-unfolding formulaCount walkOf walkFrom stepOf recordStep frameFault bytesAt recordFault lengthFault sizeFault countFault outside startFault number2 number4 rows firstRow rowOf firstCount fieldOf shapeOf wordsBy
+refusals : (formulaCount 24 [] ≡ Refused (refusal 0 1)) × (formulaCount 24 (replicate 8 0) ≡ Refused (refusal 0 2)) × (formulaCount 24 startOnly ≡ Refused (refusal 8 1)) × (formulaCount 24 endOnly ≡ Refused (refusal 0 3))
+unfolding formulaCount walkOf walkFrom faultAt frameFault bytesAt recordFault lengthFault sizeFault countFault outside startFault scaleFault number2 number4 rows firstRow rowOf firstCount fieldOf shapeOf piecesBy
 refusals = (refl, refl, refl, refl)
+
+-- a start at 15 to 29 places: 6 outside 16 to 28
+by-scale : (formulaCount 15 startOnly ≡ Refused (refusal 0 6)) × (formulaCount 16 startOnly ≡ Refused (refusal 8 1)) × (formulaCount 28 startOnly ≡ Refused (refusal 8 1)) × (formulaCount 29 startOnly ≡ Refused (refusal 0 6))
+unfolding formulaCount walkOf walkFrom faultAt frameFault bytesAt recordFault lengthFault sizeFault countFault outside startFault scaleFault number2 number4 rows firstRow rowOf firstCount fieldOf shapeOf piecesBy
+by-scale = (refl, refl, refl, refl)
+
+-- a polynomial of two coefficients has two words
+two-words : wordsIn (formula 1 (shape Polynomial 2 0 0) (pos 0) (pos 5) (padded (negsuc 3 ∷ pos 0 ∷ []))) ≡ negsuc 3 ∷ pos 0 ∷ []
+unfolding padded
+two-words = refl

@@ -1,3 +1,3 @@
-pub mod Runs
+-- The sheet writer, and what the two round trips speak of.
 pub mod SheetWriter
 pub mod RoundTrips

@@ -1,23 +1,24 @@
--- What the two promises speak of: reading undoes writing, and writing undoes reading.
+-- What the two promises speak of, at s binary places: reading undoes writing, and writing undoes reading.
 use Prim.Native.Nat.{ℕ, _+_, _-_, _≤_}
 use mathlib.Core.Path.{_≡_}
 use mathlib.Core.List.{List, [], _∷_}
 use mathlib.Core.Logic.{_⊎_}
 use lib.ListN.{length, take, drop}
 use Rattle.formula.specs.declared.Formula.{Formula}
+use Rattle.table.specs.Codes.{startRow}
 use Rattle.layout.specs.Fields.{formulaNumber}
 use Rattle.sheet.specs.Reader.{formulaCount, reading, formulaRead}
 use Rattle.sheet.specs.declared.answers.FormulaCount.the-variants.{Count}
 use Rattle.sheet.specs.declared.answers.Found.the-variants.{Given}
-use Rattle.record_bytes.specs.Kinds.{plain}
+use Rattle.layout.specs.Plain.{plain}
 use Rattle.record_writer.specs.RecordWriter.{Handed, recordWriting, bytesOf}
 use Rattle.record_writer.specs.declared.answers.Writing.the-variants.{Written}
-use Rattle.sheet_writer.specs.SheetWriter.{sheetWriting, sheetOf}
+use Rattle.sheet_writer.specs.SheetWriter.{added, sheetWriting, sheetOf}
 
 -- each is as code hands it over, and accepted
-abbrev pub EachWritten : List Formula → Type 0
-EachWritten [] = Unit
-EachWritten (f ∷ fs) = (Handed f × (room : ℕ) × (n : ℕ) × (recordWriting f room ≡ Written n)) × EachWritten fs
+abbrev pub EachWritten : ℕ → List Formula → Type 0
+EachWritten s [] = Unit
+EachWritten s (f ∷ fs) = (Handed f × (room : ℕ) × (n : ℕ) × (recordWriting s f room ≡ Written n)) × EachWritten s fs
 
 -- each number above the one before, and the first not below n
 abbrev pub Ascending : ℕ → List Formula → Type 0
@@ -30,19 +31,19 @@ In x (y ∷ ys) = (x ≡ y) ⊎ In x ys
 
 -- the sheet writer accepts the run of their records, and of that sheet the reader gives each for its number, with the fields
 -- that its kind has not at 0
-pub record ReadAgain (fs : List Formula) (run : List ℕ) : Type 0 where
-  pub written : (room : ℕ) → length run + 16 ≤ room → sheetWriting run room ≡ Written (length run + 16)
-  pub count : formulaCount (sheetOf run) ≡ Count (length fs)
-  pub each : (f : Formula) → In f fs → formulaRead (sheetOf run) (f .number) ≡ reading Given (plain f)
+pub record ReadAgain (s : ℕ) (fs : List Formula) (run : List ℕ) : Type 0 where
+  pub written : (room : ℕ) → length run + added ≤ room → sheetWriting s run room ≡ Written (length run + added)
+  pub count : formulaCount s (sheetOf s run) ≡ Count (length fs)
+  pub each : (f : Formula) → In f fs → formulaRead s (sheetOf s run) (f .number) ≡ reading Given (plain f)
 
 -- what stands between a sheet's start and its end
 abbrev pub runOf : List ℕ → List ℕ
-runOf s = take (length s - 16) (drop 8 s)
+runOf bytes = take (length bytes - added) (drop (startRow .head) bytes)
 
 -- the record of a number in a sheet: what the reader gives for the number is written as that record's own bytes
-pub record OwnRecord (s : List ℕ) (n : ℕ) (bs : List (List ℕ)) : Type 0 where
+pub record OwnRecord (s : ℕ) (bytes : List ℕ) (n : ℕ) (bs : List (List ℕ)) : Type 0 where
   pub here : List ℕ
   pub one : In here bs
   pub number : formulaNumber here ≡ n
-  pub bytes : bytesOf (formulaRead s n .formula) ≡ here
-  pub written : (room : ℕ) → length here ≤ room → recordWriting (formulaRead s n .formula) room ≡ Written (length here)
+  pub again : bytesOf (formulaRead s bytes n .formula) ≡ here
+  pub written : (room : ℕ) → length here ≤ room → recordWriting s (formulaRead s bytes n .formula) room ≡ Written (length here)

@@ -1,61 +1,88 @@
--- The sheet writer: what it answers for a run of records and a buffer of so many bytes, and what it writes.
+-- The sheet writer at s binary places: what it answers for a run of records and a buffer of so many bytes, and what it writes.
 use Prim.Native.Nat.{ℕ, _+_}
 use mathlib.Core.Path.{_≡_, refl}
 use mathlib.Core.List.{List, [], _∷_, _++_}
 use mathlib.Core.Bool.{cond}
 use lib.Dec.{eqb, ltb}
 use lib.ListN.{length}
-use Rattle.table.specs.Table.{rows, firstRow, rowOf, wordsBy}
-use Rattle.layout.specs.Numbers.{number2, number4, bytes2, bytes4}
-use Rattle.layout.specs.Fields.{firstCount, fieldOf, shapeOf, words, padded, formulaOf}
-use Rattle.records.specs.Faults.{frameFault, bytesAt, outside, countFault, sizeFault, lengthFault, orderFault, intervalFault, wordsFault, valueFault, innerFault, recordFault}
-use Rattle.records.specs.Guard.{refusal}
-use Rattle.sheet.specs.declared.answers.FormulaCount.{FormulaCount}
-use Rattle.sheet.specs.declared.answers.FormulaCount.the-variants.{Count, Refused as Broken}
-use Rattle.sheet.specs.Reader.{countValue}
+use Rattle.stored.specs.Numbers.{number2, number4, bytes2, bytes4}
+use Rattle.stored.specs.Words.{words}
+use Rattle.table.specs.Table.{rows, firstRow, rowOf, piecesBy}
+use Rattle.table.specs.Codes.{startRow, endRow}
+use Rattle.layout.specs.Fields.{bytesAt, firstCount, fieldOf, shapeOf}
+use Rattle.layout.specs.Bytes.{frontBytes, framingBytes}
+use Rattle.records.specs.Faults.{frameFault, outside, countFault, sizeFault, lengthFault, orderFault, intervalFault, ownFault, wordsFault, valueFault, scaleFault}
+use Rattle.records.specs.Guard.{guard, refusal}
+use Rattle.walking.specs.Walking.{recordFault, faultAt, foundBy, walkFrom, walkOf}
+use Rattle.walking.specs.declared.Walked.{Walked}
+use Rattle.walking.specs.declared.Walked.the-variants.{Whole, Broken}
+use Rattle.sheet.specs.Reader.{noNumber}
 use Rattle.record_writer.specs.Answers.{refusedBy}
 use Rattle.record_writer.specs.declared.answers.Writing.{Writing}
 use Rattle.record_writer.specs.declared.answers.Writing.the-variants.{Written, Refused}
-use Rattle.sheet_writer.specs.Runs.{runRecordFault, runFault, runFrom, runCount}
+
+-- the run is walked over as it will stand in the sheet: behind the start. No number is asked for
+abbrev pub runWalked : ℕ → List ℕ → Walked
+runWalked s run = walkOf s run (startRow .head) noNumber
+
+-- how many records it has
+abbrev pub recordsIn : Walked → ℕ
+recordsIn (Whole c k) = c
+recordsIn (Broken r) = 0
+
+-- what a start and an end add to it
+abbrev pub added : ℕ
+added = startRow .head + endRow .head
 
 -- the run's own refusal; then 12 if the buffer is shorter than the run plus 16
-abbrev pub countedWriting : FormulaCount → ℕ → ℕ → Writing
-countedWriting (Broken r) n room = Refused r
-countedWriting (Count c) n room = cond (ltb room (n + 16)) (refusedBy 12) (Written (n + 16))
+abbrev pub walkedWriting : Walked → ℕ → ℕ → Writing
+walkedWriting (Broken r) n room = Refused r
+walkedWriting (Whole c k) n room = cond (ltb room (n + added)) (refusedBy 12) (Written (n + added))
 
--- an empty run gives 4 at place 0
-unfoldable pub sheetWriting : List ℕ → ℕ → Writing
-sheetWriting run room = cond (eqb (length run) 0) (refusedBy 4) (countedWriting (runCount run) (length run) room)
-
--- a start or an end: length, kind and count
-unfoldable pub boundBytes : ℕ → ℕ → List ℕ
-boundBytes code count = (bytes4 8 ++ bytes2 code) ++ bytes2 count
+-- first a scale that no board has (6), then an empty run (4), both at place 0
+unfoldable pub sheetWriting : ℕ → List ℕ → ℕ → Writing
+sheetWriting s run room =
+    guard (scaleFault s) refusedBy
+    (cond (eqb (length run) 0) (refusedBy 4) (walkedWriting (runWalked s run) (length run) room))
 
 -- one start, the run, one end with the same count
 abbrev pub sheetBytes : ℕ → List ℕ → List ℕ
-sheetBytes count run = boundBytes 0x0001 count ++ (run ++ boundBytes 0xffff count)
+sheetBytes count run = framingBytes startRow count ++ (run ++ framingBytes endRow count)
 
 -- the count is the number of records
-abbrev pub sheetOf : List ℕ → List ℕ
-sheetOf run = sheetBytes (countValue (runCount run)) run
+abbrev pub sheetOf : ℕ → List ℕ → List ℕ
+sheetOf s run = sheetBytes (recordsIn (runWalked s run)) run
 
--- ---- worked examples: the sheet of the paper's listing
+-- ---- worked examples: the sheet of the paper's listing; a byte more than the run is 16
 abbrev exampleRun : List ℕ
 exampleRun = 0x10 ∷ 0 ∷ 0 ∷ 0 ∷ 0x13 ∷ 0 ∷ 1 ∷ 0 ∷ 0 ∷ 0 ∷ 0 ∷ 0 ∷ 0 ∷ 0 ∷ 0 ∷ 2 ∷ []
 
-one-record : runCount exampleRun ≡ Count 1
-unfolding rows firstRow rowOf number2 number4 wordsBy words padded firstCount fieldOf shapeOf formulaOf frameFault bytesAt outside countFault lengthFault sizeFault orderFault intervalFault wordsFault valueFault innerFault recordFault runRecordFault runFault runFrom runCount
+sixteen-more : added ≡ 16
+unfolding startRow endRow firstRow rows
+sixteen-more = refl
+
+one-record : runWalked 24 exampleRun ≡ Whole 1 0
+unfolding startRow rows firstRow rowOf number2 number4 piecesBy words firstCount fieldOf shapeOf frameFault bytesAt outside countFault lengthFault sizeFault orderFault intervalFault ownFault wordsFault valueFault recordFault faultAt foundBy walkFrom walkOf
 one-record = refl
 
 paper-sheet : sheetBytes 1 exampleRun ≡ 8 ∷ 0 ∷ 0 ∷ 0 ∷ 1 ∷ 0 ∷ 1 ∷ 0 ∷ (exampleRun ++ (8 ∷ 0 ∷ 0 ∷ 0 ∷ 0xff ∷ 0xff ∷ 1 ∷ 0 ∷ []))
-unfolding bytes2 bytes4 boundBytes
+unfolding startRow endRow firstRow rows bytes2 bytes4 frontBytes framingBytes
 paper-sheet = refl
 
--- a start record in the run gives 3 at 8, an empty run 4 at 0
-start-in-run : runCount (boundBytes 0x0001 1) ≡ Broken (refusal 8 3)
-unfolding rows firstRow rowOf bytes2 bytes4 number2 number4 frameFault bytesAt runRecordFault runFault runFrom runCount boundBytes
+-- the shortest buffer that it fits, and one byte less
+room-enough : (sheetWriting 24 exampleRun 32 ≡ Written 32) × (sheetWriting 24 exampleRun 31 ≡ refusedBy 12)
+unfolding sheetWriting scaleFault startRow endRow rows firstRow rowOf number2 number4 piecesBy words firstCount fieldOf shapeOf frameFault bytesAt outside countFault lengthFault sizeFault orderFault intervalFault ownFault wordsFault valueFault recordFault faultAt foundBy walkFrom walkOf
+room-enough = (refl, refl)
+
+-- a start record in the run gives 3 at 8, an empty run 4 at 0, 15 places 6 at 0 before that
+start-in-run : runWalked 24 (framingBytes startRow 1) ≡ Broken (refusal 8 3)
+unfolding startRow rows firstRow rowOf bytes2 bytes4 frontBytes framingBytes number2 number4 frameFault bytesAt recordFault faultAt walkFrom walkOf
 start-in-run = refl
 
-empty-run : sheetWriting [] 100 ≡ refusedBy 4
-unfolding sheetWriting
-empty-run = refl
+end-in-run : runWalked 24 (framingBytes endRow 1) ≡ Broken (refusal 8 3)
+unfolding startRow endRow rows firstRow rowOf bytes2 bytes4 frontBytes framingBytes number2 number4 frameFault bytesAt recordFault faultAt walkFrom walkOf
+end-in-run = refl
+
+first-of-all : (sheetWriting 24 [] 100 ≡ refusedBy 4) × (sheetWriting 15 [] 100 ≡ refusedBy 6)
+unfolding sheetWriting scaleFault
+first-of-all = (refl, refl)

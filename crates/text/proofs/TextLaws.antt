@@ -1,18 +1,17 @@
--- Texts put into a buffer one behind the other, and the digits of a number.
+-- Texts put into a buffer one behind the other, by one run of stores behind another; and the digits of a number, by induction on how many there are.
 use mathlib.Core.Path.{_≡_, _∙_, refl, sym, ap}
 use mathlib.Core.List.{List, [], _∷_, _++_}
 use mathlib.Core.Bool.{Bool, true, false, cond}
 use Prim.Native.Nat.{ℕ, zero, suc, _+_, _/_, _%_, _^_, _≤_, _<_}
-use native.Mathlib.Nat.{add-zero, zero-add, pow-suc}
-use native.Mathlib.Numerals.{add-one}
+use native.Mathlib.Nat.{zero-add, pow-suc}
 use native.Mathlib.Omega.{arith}
 use lib.Dec.{ltb}
 use lib.IntN.{ℤ, pos, negsuc, natAbs}
 use lib.Signed.{ltZ}
-use lib.ListN.{length, getD, take, drop, set, length-append}
-use lib.Seq.{sets, length-sets, take-suc}
+use lib.ListN.{length, drop, set, length-append}
+use lib.Seq.{sets, length-sets}
 use borrow.Author.Tests.{lt-ltb, le-ltb, ltb-true, ltb-false}
-use Rattle.layout.proofs.StoreLaws.{sets-sets, sets-front}
+use Rattle.stored.proofs.StoreLaws.{next, sets-front}
 use Rattle.text.specs.Text.{text, digit, digitsBy, decimal, signed, Puts}
 
 -- ---- texts in a buffer
@@ -22,22 +21,12 @@ pub behind : {l a d b e : List ℕ} {i n m : ℕ} → Puts l i a d n → Puts d 
 behind {l} {a} {d} {b} {e} {i} p q =
     record {
       end = omega (arith, p .end, q .end, length-append a b);
-      stored = q .stored ∙ rw (p .stored, p .end) (sets-sets a l b i);
+      stored = next l a b i _ (p .stored) (p .end) (q .stored);
     }
-
--- no text
-pub nothing : (l : List ℕ) (i : ℕ) → Puts l i [] l i
-nothing l i = record { end = sym (add-zero i); stored = refl }
 
 -- one character
 pub one : (l : List ℕ) (i x : ℕ) → Puts l i (x ∷ []) (set l i x) (i + 1)
 one l i x = record { end = refl; stored = refl }
-
--- a turn of the loop that copies a text
-pub turn : (l t d : List ℕ) (at i : ℕ) → i < length t → Puts l at (take i t) d (at + i) → Puts l at (take (i + 1) t) (set d (at + i) (getD t i 0)) (at + (i + 1))
-turn l t d at i h p =
-    let e : at + (i + 1) ≡ at + i + 1 = omega arith in
-    rw (e, add-one i, take-suc t i 0 h) (behind p (one d (at + i) (getD t i 0)))
 
 -- a text at the front, which the buffer has room for
 pub front : {l t u d : List ℕ} {n m : ℕ} → u ≡ t → Puts l 0 t d n → n ≤ m → m ≡ length l
@@ -60,7 +49,7 @@ pub less : {l t d a rest e : List ℕ} {at n m : ℕ} → Left l at t d n (a ++ 
 less {l} {t} {d} {a} {rest} {e} {at} {n} {m} h p =
     record {
       end = omega (arith, h .end, p .end, length-append a rest);
-      stored = rw (p .stored, p .end) (sets-sets a d rest n) ∙ h .stored;
+      stored = next d a rest n m (p .stored) (p .end) refl ∙ h .stored;
     }
 
 pub done : {l t d : List ℕ} {at n : ℕ} → Left l at t d n [] → Puts l at t d n

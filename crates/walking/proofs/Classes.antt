@@ -1,5 +1,5 @@
 -- The faults of a record, class by class as the code meets them, are those in the paper's order; and which codes are framing records'.
-use mathlib.Core.Path.{_≡_, _∙_, refl, sym, ap}
+use mathlib.Core.Path.{_≡_, _∙_, refl, sym, ap, subst}
 use mathlib.Core.List.{List}
 use mathlib.Core.Bool.{Bool, true, false, cond}
 use Prim.Native.Nat.{ℕ}
@@ -26,6 +26,14 @@ start-code c e = sym (code-found c e tt) ∙ ap (λ (r : Row). r .code) (start-r
 pub end-code : (c : ℕ) → rowOf c .class ≡ EndRecord → c ≡ 0xffff
 unfolding endRow firstRow rows
 end-code c e = sym (code-found c e tt) ∙ ap (λ (r : Row). r .code) (end-row c e)
+
+pub start-class : (c : ℕ) → c ≡ 0x0001 → rowOf c .class ≡ StartRecord
+unfolding rowOf firstRow rows
+start-class c e = subst (λ (n : ℕ). rowOf n .class ≡ StartRecord) (sym e) refl
+
+pub end-class : (c : ℕ) → c ≡ 0xffff → rowOf c .class ≡ EndRecord
+unfolding rowOf firstRow rows
+end-class c e = subst (λ (n : ℕ). rowOf n .class ≡ EndRecord) (sym e) refl
 
 -- ---- the faults
 module _ (s : ℕ) (from : ℕ) (b : List ℕ) (w : Walk) where

@@ -1,11 +1,11 @@
--- Division of a whole number by a natural: rounded down (`shrZ`), and towards zero (`quotZ`, `remZ`).
-use mathlib.Core.Path.{_≡_, refl, ap}
+-- Division of a whole number by a natural: rounded down (`shrZ`), towards zero (`quotZ`, `remZ`), and the first by means of the second.
+use mathlib.Core.Path.{_≡_, refl, sym, ap}
 use Prim.Native.Nat.{ℕ, zero, suc, _+_, _*_, _/_, _%_, _<_, _≤_}
 use native.Mathlib.Nat.{div-add-mod, mod-lt, lt-of-mul-lt-mul-left, div-le-self}
 use native.Mathlib.Omega.{arith}
-use lib.IntN.{ℤ, pos, negsuc, negℤ, natAbs}
-use lib.Signed.{shrZ, quotZ, remZ}
-use Rattle.whole.proofs.Diff.{P, N, v, same}
+use lib.IntN.{ℤ, pos, negsuc, negℤ, natAbs, _-ℤ_}
+use lib.Signed.{_≤ℤ_, _<ℤ_, shrZ, quotZ, remZ}
+use Rattle.whole.proofs.Diff.{Diff, P, N, v, n, _⊝_, same, below-out, strict-out}
 use Rattle.whole.proofs.Order.{abs-neg}
 
 -- q is z / m, rounded down: m · q ≤ z < m · q + m, in the parts
@@ -25,6 +25,10 @@ floor-one z m q r f g = same (v q) (v r) (omega (arith, one-way q r f g, one-way
 
 pub floor-is : (z : ℤ) (m : ℕ) (q : ℤ) → 0 < m → FloorOf z m q → shrZ z m ≡ q
 floor-is z m q h f = floor-one z m (shrZ z m) q (floor-of z m h) f
+
+-- the same by any reading of q as a difference
+floor-by : (z : ℤ) (m : ℕ) {q : ℤ} (r : Diff q) → 0 < m → m * r .up + N z ≤ P z + m * r .dn → P z + m * r .dn < N z + m * r .up + m → shrZ z m ≡ q
+floor-by z m {q} r h f g = floor-is z m q h (record { low = omega (arith, ap (λ (t : ℕ). m * t) (r .is)); high = omega (arith, ap (λ (t : ℕ). m * t) (r .is)) })
 
 -- towards zero, by a positive divisor: z ≡ q · m + r with |r| < m
 neg-pos-up : (k : ℕ) → P (negℤ (pos k)) ≡ 0
@@ -47,6 +51,19 @@ trunc-of (negsuc a) m h = record {
   less-up = omega (arith, neg-pos-up (suc a % m));
   less-dn = omega (arith, neg-pos-dn (suc a % m), mod-lt (suc a) h);
 }
+
+-- the quotient towards zero is the one rounded down where the remainder is not below 0, and one more than that where it is
+pub floor-right : (z : ℤ) (m : ℕ) → 0 < m → pos 0 ≤ℤ remZ z (pos m) → quotZ z (pos m) ≡ shrZ z m
+floor-right z m h k =
+    let f = trunc-of z m h in
+    let g = below-out (n 0) (v (remZ z (pos m))) k in
+    sym (floor-by z m (v (quotZ z (pos m))) h (omega arith) (omega arith))
+
+pub floor-less : (z : ℤ) (m : ℕ) → 0 < m → remZ z (pos m) <ℤ pos 0 → quotZ z (pos m) -ℤ pos 1 ≡ shrZ z m
+floor-less z m h k =
+    let f = trunc-of z m h in
+    let g = strict-out (v (remZ z (pos m))) (n 0) k in
+    sym (floor-by z m (v (quotZ z (pos m)) ⊝ n 1) h (omega arith) (omega arith))
 
 -- a quotient is no larger than the dividend
 pub quot-abs : (z d : ℤ) → natAbs (quotZ z d) ≤ natAbs z

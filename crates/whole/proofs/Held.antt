@@ -4,7 +4,8 @@
 use mathlib.Core.Path.{_≡_, refl, sym, ap, ap₂, _∙_, subst}
 use mathlib.Core.Bool.{Bool, true, false, not}
 use lib.Dec.{T, ltb, leb}
-use Prim.Native.Nat.{ℕ, _^_, _<_}
+use Prim.Native.Nat.{ℕ, zero, suc, _+_, _*_, _-_, _%_, _^_, _<_, _≤_}
+use native.Mathlib.Nat.{add-mul-mod-self-left, mod-eq-of-lt}
 use native.Mathlib.Omega.{arith}
 use lib.IntN.{ℤ, pos, negsuc, negℤ, natAbs, _+ℤ_, _-ℤ_, _*ℤ_, +ℤ-idl}
 use lib.Signed.{nonNeg, yes-nonNeg, _≤ℤ_, _<ℤ_, ltZ, ltZ-no, mag, shrZ, quotZ, remZ, mag-shr, mag-rem}
@@ -107,3 +108,24 @@ cast-nat {w} {w′} {x} {y} h p f = (subst (λ (z : ℤ). T (nonNeg z)) (sym (he
 -- `-x` is `0 - x`
 pub negated : {w : Width} {x y : ℤ} → Held w x y → SFits w (negℤ y) → Held w (pos 0 -ℤ back w x) (negℤ y)
 negated h f = record { eq = ap (λ (z : ℤ). pos 0 -ℤ z) (held h) ∙ +ℤ-idl _; fits = f }
+
+-- ---- a shift to the left gives bits: where no digit is lost, those of the product, below zero too
+complement : (B t u j p : ℕ) → t + j ≡ B → u + j * suc p ≡ B → 0 < j → t * suc p % B ≡ u
+complement B t u j p f g h =
+    let e : t * suc p ≡ u + B * p = omega (arith, ap (λ (z : ℕ). z * suc p) f) in
+    ap (λ (z : ℕ). z % B) e ∙ add-mul-mod-self-left u B p ∙ mod-eq-of-lt (omega arith)
+
+negative-bits : (w : Width) (j : ℕ) → 0 < j → SFits w (negℤ (pos j)) → (j ≤ 2 ^ bits w) × (2 ^ bits w - j ≡ ofZ w (negℤ (pos j)))
+negative-bits w zero h f = absurd (omega arith)
+negative-bits w (suc k) h f = (omega (arith, f .sfits, pow-bits w), refl)
+
+shifted : (w : Width) (y : ℤ) (p : ℕ) → SFits w (y *ℤ pos (suc p)) → ofZ w y * suc p % 2 ^ bits w ≡ ofZ w (y *ℤ pos (suc p))
+shifted w (pos k) p f = mod-eq-of-lt (omega (arith, f .sfits, pow-bits w))
+shifted w (negsuc k) p f =
+    let j = suc k * suc p in
+    let b = negative-bits w j (omega arith) f in
+    complement (2 ^ bits w) (2 ^ bits w - suc k) (2 ^ bits w - j) (suc k) p (omega (arith, b .0)) (omega (arith, b .0)) (omega arith) ∙ b .1
+
+pub shl : {w : Width} {x y : ℤ} (p : ℕ) → 0 < p → Held w x y → SFits w (y *ℤ pos p) → toZ w (ofZ w x * p % 2 ^ bits w) ≡ y *ℤ pos p
+shl zero h k f = absurd (omega arith)
+shl {w} {x} {y} (suc p) h k f = ap (λ (z : ℤ). toZ w (ofZ w z * suc p % 2 ^ bits w)) (k .eq) ∙ ap (toZ w) (shifted w y p f) ∙ toZ-ofZ f

@@ -46,8 +46,8 @@ falls v (suc w) h =
     omega (arith, twice v (suc w) p)
 
 -- so where it is not below the old, the old's square is not above v
-pub ended : (v w : ℕ) → w ≤ heron v w → w * w ≤ v
-ended v w h = by (decLe (w * w) v)
+pub heron-ended : (v w : ℕ) → w ≤ heron v w → w * w ≤ v
+heron-ended v w h = by (decLe (w * w) v)
   where
     by : Dec (w * w ≤ v) → w * w ≤ v
     by (yes f) = f

@@ -1,4 +1,4 @@
--- The laws of the root: its two inequalities, that they determine it, and that it is the largest.
+-- The laws of the root: its two inequalities, which each digit of the definition keeps, that they determine it, and that it is the largest.
 use mathlib.Core.Path.{_≡_, refl}
 use mathlib.Core.Bool.{Bool, true, false, cond}
 use Prim.Native.Nat.{ℕ, zero, suc, _+_, _*_, _/_, _^_, _<_, _≤_}
@@ -7,10 +7,10 @@ use native.Mathlib.Decide.{decLe}
 use native.Mathlib.Omega.{arith}
 use lib.Dec.{leb}
 use lib.IntN.{ℤ, natAbs}
-use lib.Pow.{pow-mono}
 use borrow.Author.Tests.{leb-true, leb-false}
 use Rattle.word.specs.Words.{Word, Rootable, unit}
 use Rattle.word.specs.Root.{RootOf, rootIn, rootOf, rootWord}
+use Rattle.word.proofs.WordLaws.{scaled-most}
 
 pub square-lt : (a b : ℕ) → a * a < b * b → a < b
 square-lt a b h = by (decLe b a)
@@ -48,13 +48,8 @@ pub root-largest : (v q : ℕ) → q * q ≤ v → q ≤ rootOf v
 root-largest v q h = omega (arith, square-lt q (rootOf v + 1) (omega (arith, root-of v .high)))
 
 -- ---- of a word: what is under the root fits 60 binary digits, so the root is a word
-pub scaled-most : (x s : ℕ) → x ≤ 2147483647 → s ≤ 28 → x * 2 ^ s < 2 ^ 60
-scaled-most x s f g =
-    let u : 2 ^ s ≤ 268435456 = omega (arith, pow-mono {i = s} {j = 28} g) in
-    omega (arith, mul-le-mul f u)
-
 pub root-most : (v : ℕ) → v < 2 ^ 60 → rootOf v < 2 ^ 30
 root-most v h = square-lt (rootOf v) (2 ^ 30) (omega (arith, root-of v .low))
 
 pub root-word : (s : ℕ) (x : ℤ) → Rootable s x → Word (rootWord s x)
-root-word s x r = omega (arith, root-most (natAbs x * unit s) (scaled-most (natAbs x) s (r .1) (r .0 .most)))
+root-word s x r = omega (arith, root-most (natAbs x * unit s) (scaled-most (natAbs x) s (omega (arith, r .1)) (r .0 .most)))

@@ -1,6 +1,6 @@
 -- The laws of rounding: how near, how large, exact where it divides, where a tie goes, and that these determine the result.
--- A change of the tie rule changes `rounded`, `rounded-tie`, `rounded-determined`, `rounded-by` and `shifted-is`; the other laws keep their statements.
-use mathlib.Core.Path.{_≡_, refl, sym, ap}
+-- All follow from two inequalities in the parts, `Nearest`. A change of the tie rule changes `lifted`, `Nearest`, `rounded-tie` and `rounded-determined`; the other laws keep their statements.
+use mathlib.Core.Path.{_≡_, refl, sym}
 use native.Mathlib.Decide.{decLe}
 use Prim.Native.Nat.{ℕ, _+_, _*_, _-_, _/_, _<_, _≤_}
 use native.Mathlib.Nat.{div-add-mod, mod-lt, mul-le-mul-left, le-of-mul-le-mul-left, lt-of-mul-lt-mul-left, mul-lt-mul-of-pos-left}
@@ -9,7 +9,8 @@ use lib.IntN.{ℤ, pos, natAbs, _+ℤ_, _-ℤ_, _*ℤ_}
 use lib.Signed.{_≤ℤ_, shrZ}
 use Rattle.whole.proofs.Diff.{Diff, P, N, v, n, _⊕_, _⊗_, _⊝_, same-out, size, near, abs-is, below, below-out}
 use Rattle.whole.proofs.Floor.{floor-of, floor-is}
-use Rattle.word.specs.Rounded.{rounded, roundedUp}
+use Rattle.whole.proofs.Order.{abs-add}
+use Rattle.word.specs.Rounded.{lifted, rounded, roundedUp}
 
 -- ---- rounded up
 pub up-as : (a d : ℕ) → (a + (d - 1)) / d ≡ roundedUp a d
@@ -27,27 +28,27 @@ up-least a d k h f = omega (arith, lt-of-mul-lt-mul-left d {m = (a + (d - 1)) / 
 pub up-mono : (a b d : ℕ) → 0 < d → a ≤ b → roundedUp a d ≤ roundedUp b d
 up-mono a b d h f = up-least a d (roundedUp b d) h (omega (arith, up-above b d h))
 
+-- ---- what is lifted
+pub lifted-most : (n : ℤ) (h : ℕ) → natAbs (lifted n h) ≤ natAbs n + h
+lifted-most n h = abs-add n (pos h)
+
 -- ---- rounded to the nearest: 2·d·q ≤ 2·m + d < 2·d·q + 2·d, in the parts
 record Nearest (m : ℤ) (d : ℕ) (q : ℤ) : Type 0 where
   low : 2 * (d * P q) + 2 * N m ≤ 2 * P m + d + 2 * (d * N q)
   high : 2 * P m + d + 2 * (d * N q) < 2 * N m + 2 * (d * P q) + 2 * d
 
-doubled : (m : ℤ) (d : ℕ) → Diff (m +ℤ m +ℤ pos d)
+doubled : (m : ℤ) (d : ℕ) → Diff (lifted (m +ℤ m) d)
 doubled m d = v m ⊕ v m ⊕ n d
 
 nearest-of : (m : ℤ) (d : ℕ) → 0 < d → Nearest m d (rounded m d)
 unfolding rounded doubled
 nearest-of m d h =
-    let f = floor-of (m +ℤ m +ℤ pos d) (d + d) (omega arith) in
+    let f = floor-of (lifted (m +ℤ m) d) (d + d) (omega arith) in
     record { low = omega (arith, f .low, doubled m d .is); high = omega (arith, f .high, doubled m d .is) }
 
 nearest-is : (m : ℤ) (d : ℕ) (q : ℤ) → 0 < d → Nearest m d q → rounded m d ≡ q
 unfolding rounded doubled
-nearest-is m d q h f = floor-is (m +ℤ m +ℤ pos d) (d + d) q (omega arith) (record { low = omega (arith, f .low, doubled m d .is); high = omega (arith, f .high, doubled m d .is) })
-
--- for the functions that divide: the result by any reading of q as a difference
-pub rounded-by : (m : ℤ) (d : ℕ) {q : ℤ} (r : Diff q) → 0 < d → 2 * (d * r .up) + 2 * N m ≤ 2 * P m + d + 2 * (d * r .dn) → 2 * P m + d + 2 * (d * r .dn) < 2 * N m + 2 * (d * r .up) + 2 * d → rounded m d ≡ q
-rounded-by m d {q} r h f g = nearest-is m d q h (record { low = omega (arith, ap (λ (t : ℕ). d * t) (r .is)); high = omega (arith, ap (λ (t : ℕ). d * t) (r .is)) })
+nearest-is m d q h f = floor-is (lifted (m +ℤ m) d) (d + d) q (omega arith) (record { low = omega (arith, f .low, doubled m d .is); high = omega (arith, f .high, doubled m d .is) })
 
 -- nearest: twice the distance is at most the divisor
 pub rounded-near : (m : ℤ) (d : ℕ) → 0 < d → 2 * natAbs (rounded m d *ℤ pos d -ℤ m) ≤ d
@@ -99,9 +100,13 @@ rounded-same m d k c D C e =
       high = lt-of-mul-lt-mul-left c (omega (arith, g, mul-lt-mul-of-pos-left (f .high) D));
     })
 
--- for the functions that shift: (m + d / 2) / d, rounded down, is m / d rounded
-pub shifted-is : (m : ℤ) (h d : ℕ) → 0 < d → 2 * h ≡ d → shrZ (m +ℤ pos h) d ≡ rounded m d
+-- for the functions: what is lifted and rounded down is rounded, by a divisor with a half, and by any with both doubled
+pub shifted-is : (m : ℤ) (h d : ℕ) → 0 < d → 2 * h ≡ d → shrZ (lifted m h) d ≡ rounded m d
 shifted-is m h d f e =
-    let g = floor-of (m +ℤ pos h) d f in
+    let g = floor-of (lifted m h) d f in
     let r = (v m ⊕ n h) .is in
-    sym (rounded-by m d (v (shrZ (m +ℤ pos h) d)) f (omega arith) (omega arith))
+    sym (nearest-is m d (shrZ (lifted m h) d) f (record { low = omega arith; high = omega arith }))
+
+pub divided-is : (m : ℤ) (d : ℕ) → shrZ (lifted (m +ℤ m) d) (d + d) ≡ rounded m d
+unfolding rounded
+divided-is m d = refl

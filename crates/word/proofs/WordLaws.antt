@@ -1,19 +1,25 @@
--- The laws of product, quotient and their bounds, over the binary places. Everything above this crate uses these.
-use mathlib.Core.Path.{_≡_, refl, sym, ap, _∙_}
+-- The laws of product, quotient and their bounds, over the binary places: those of rounding, at a·b / 2^s and at a·2^s / d. Everything above this crate uses these.
+use mathlib.Core.Path.{_≡_, sym, ap, _∙_}
 use native.Mathlib.Omega.{arith}
 use native.Mathlib.Nat.{mul-le-mul, mul-le-mul-left}
-use Prim.Native.Nat.{ℕ, suc, _*_, _<_, _≤_}
-use lib.Pow.{pow-pos}
-use lib.Signed.{_≤ℤ_, _<ℤ_, clashℤ}
-use lib.IntN.{ℤ, pos, negsuc, negℤ, natAbs, _-ℤ_, _*ℤ_, zero-*ℤ}
-use Rattle.whole.proofs.Diff.{v, n, _⊗_, _⊝_, ⊖_, size}
-use Rattle.whole.proofs.Order.{pos-le, abs-mul, abs-neg}
+use Prim.Native.Nat.{ℕ, _*_, _^_, _<_, _≤_}
+use lib.Pow.{pow-pos, pow-mono}
+use lib.IntN.{ℤ, pos, natAbs, _-ℤ_, _*ℤ_, zero-*ℤ}
+use Rattle.whole.proofs.Order.{abs-mul}
 use Rattle.word.specs.Rounded.{rounded}
-use Rattle.word.specs.Words.{NotZero, unit, signed, productOf, quotientOf, boundProduct, boundQuotient}
+use Rattle.word.specs.Words.{NotZero, unit, belowZero, withSign, productOf, quotientOf, boundProduct, boundQuotient}
 use Rattle.word.proofs.RoundedLaws.{rounded-near, rounded-size, rounded-exact, up-above, up-least, up-mono}
+use Rattle.word.proofs.SignLaws.{sign-abs, sign-moved}
 
 pub unit-pos : (s : ℕ) → 0 < unit s
 unit-pos s = pow-pos s
+
+-- 32 binary digits, scaled, are no more than 60
+pub scaled-most : (x s : ℕ) → x < 2 ^ 32 → s ≤ 28 → x * unit s < 2 ^ 60
+scaled-most x s f g =
+    let x-most : x ≤ 4294967295 = omega arith in
+    let u-most : unit s ≤ 268435456 = omega (arith, pow-mono {i = s} {j = 28} g) in
+    omega (arith, mul-le-mul x-most u-most)
 
 -- ---- product
 pub product-near : (s : ℕ) (a b : ℤ) → 2 * natAbs (productOf s a b *ℤ pos (unit s) -ℤ a *ℤ b) ≤ unit s
@@ -33,31 +39,15 @@ pub product-within : (s : ℕ) (a b : ℤ) (A B : ℕ) → natAbs a ≤ A → na
 product-within s a b A B f g = omega (arith, product-size s a b, bound-mono s (natAbs a) (natAbs b) A B f g)
 
 -- ---- quotient
-pub signed-neg : (d z : ℤ) → d <ℤ pos 0 → signed d z ≡ negℤ z
-signed-neg (pos k) z h = absurd (clashℤ h (pos-le (omega arith)))
-signed-neg (negsuc k) z h = refl
-
-pub signed-pos : (d z : ℤ) → pos 0 ≤ℤ d → signed d z ≡ z
-signed-pos (pos k) z h = refl
-signed-pos (negsuc k) z h = absurd (h .le)
-
-signed-abs : (d z : ℤ) → natAbs (signed d z) ≡ natAbs z
-signed-abs (pos k) z = refl
-signed-abs (negsuc k) z = abs-neg z
-
-near-signed : (d q m : ℤ) → natAbs (q *ℤ d -ℤ m) ≡ natAbs (q *ℤ pos (natAbs d) -ℤ signed d m)
-near-signed (pos k) q m = refl
-near-signed (negsuc k) q m = omega (arith, size (v q ⊗ v (negsuc k) ⊝ v m), size (v q ⊗ n (suc k) ⊝ ⊖ v m))
-
 -- the quotient times d is within half of |d| of a·2^s, whatever the signs
 pub quotient-near : (s : ℕ) (a d : ℤ) → NotZero d → 2 * natAbs (quotientOf s a d *ℤ d -ℤ a *ℤ pos (unit s)) ≤ natAbs d
-quotient-near s a d h = omega (arith, near-signed d (quotientOf s a d) (a *ℤ pos (unit s)), rounded-near (signed d (a *ℤ pos (unit s))) (natAbs d) h)
+quotient-near s a d h = omega (arith, sign-moved d (quotientOf s a d) (a *ℤ pos (unit s)), rounded-near (withSign (belowZero d) (a *ℤ pos (unit s))) (natAbs d) h)
 
 quotient-size : (s : ℕ) (a d : ℤ) → NotZero d → natAbs (quotientOf s a d) ≤ boundQuotient s (natAbs a) (natAbs d)
-quotient-size s a d h = rw (← e) (rounded-size (signed d (a *ℤ pos (unit s))) (natAbs d) h)
+quotient-size s a d h = rw (← e) (rounded-size (withSign (belowZero d) (a *ℤ pos (unit s))) (natAbs d) h)
   where
-    e : natAbs (signed d (a *ℤ pos (unit s))) ≡ natAbs a * unit s
-    e = signed-abs d (a *ℤ pos (unit s)) ∙ abs-mul a (pos (unit s))
+    e : natAbs (withSign (belowZero d) (a *ℤ pos (unit s))) ≡ natAbs a * unit s
+    e = sign-abs (belowZero d) (a *ℤ pos (unit s)) ∙ abs-mul a (pos (unit s))
 
 -- a bound quotient grows with the dividend and falls with the divisor
 quotient-mono : (s a a′ d d′ : ℕ) → a ≤ a′ → d′ ≤ d → 0 < d′ → boundQuotient s a d ≤ boundQuotient s a′ d′

@@ -2,3 +2,4 @@
 pub mod Rounded
 pub mod Words
 pub mod Root
+pub mod Lists

@@ -4,10 +4,15 @@ use Prim.Native.Nat.{ℕ, _+_, _-_, _/_}
 use lib.IntN.{ℤ, pos, negsuc, _+ℤ_}
 use lib.Signed.{shrZ}
 
--- m / d to the nearest whole number, a tie towards plus infinity: m / d + 1 / 2, rounded down (`shrZ z n` is z / n rounded down).
+-- What is rounded down in place of n, where the divisor is h + h: half of it more, so that a tie goes towards plus infinity.
+-- Nothing else decides where a tie goes.
+abbrev pub lifted : ℤ → ℕ → ℤ
+lifted n h = n +ℤ pos h
+
+-- m / d to the nearest whole number, as 2·m / 2·d, whose divisor has a half (`shrZ z n` is z / n rounded down).
 -- Files above this crate use the laws of proofs/RoundedLaws.antt, not this text; only tables of worked cases compute with it.
 unfoldable pub rounded : ℤ → ℕ → ℤ
-rounded m d = shrZ (m +ℤ m +ℤ pos d) (d + d)
+rounded m d = shrZ (lifted (m +ℤ m) d) (d + d)
 
 -- a / d rounded up, for bounds
 unfoldable pub roundedUp : ℕ → ℕ → ℕ

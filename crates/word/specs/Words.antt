@@ -1,6 +1,9 @@
 -- Words, and what the operations on them give. A word w at s binary places stands for w / 2^s; document 01 has s = 24.
 use mathlib.Core.Path.{_≡_, refl}
+use mathlib.Core.Bool.{Bool, true, false}
 use Prim.Native.Nat.{ℕ, _*_, _^_, _<_, _≤_}
+use native.Mathlib.Omega.{arith}
+use lib.Dec.{lit≤}
 use lib.IntN.{ℤ, pos, negsuc, negℤ, natAbs, _*ℤ_}
 use lib.Signed.{_≤ℤ_}
 use Rattle.word.specs.Rounded.{rounded, roundedUp}
@@ -29,14 +32,18 @@ unit s = 2 ^ s
 abbrev pub productOf : ℕ → ℤ → ℤ → ℤ
 productOf s a b = rounded (a *ℤ b) (unit s)
 
--- z with the sign of d times its own
-abbrev pub signed : ℤ → ℤ → ℤ
-signed (pos k) z = z
-signed (negsuc k) z = negℤ z
+-- a sign, and what puts it on a number
+abbrev pub belowZero : ℤ → Bool
+belowZero (pos k) = false
+belowZero (negsuc k) = true
+
+abbrev pub withSign : Bool → ℤ → ℤ
+withSign true z = negℤ z
+withSign false z = z
 
 -- a·2^s / d, rounded; the divisor's sign goes to the numerator
 abbrev pub quotientOf : ℕ → ℤ → ℤ → ℤ
-quotientOf s a d = rounded (signed d (a *ℤ pos (unit s))) (natAbs d)
+quotientOf s a d = rounded (withSign (belowZero d) (a *ℤ pos (unit s))) (natAbs d)
 
 -- the same of numbers not below 0, rounded up
 abbrev pub boundProduct : ℕ → ℕ → ℕ → ℕ
@@ -55,7 +62,33 @@ Division s a d = Scale s × Word a × Word d × NotZero d
 abbrev pub Rootable : ℕ → ℤ → Type 0
 Rootable s x = Scale s × Word x × pos 0 ≤ℤ x
 
--- ---- worked examples: a half of one step, of each sign, is a tie
+-- ---- worked examples. The largest word and the least, and the number beyond each
+the-largest : Word (pos 2147483647)
+the-largest = lit≤ tt
+
+the-least : Word (negsuc 2147483646)
+the-least = lit≤ tt
+
+beyond-the-largest : Word (pos 2147483648) → ⊥
+beyond-the-largest h = omega arith
+
+beyond-the-least : Word (negsuc 2147483647) → ⊥
+beyond-the-least h = omega arith
+
+-- the fewest places and the most
+fewest : Scale 16
+fewest = record { least = lit≤ tt; most = lit≤ tt }
+
+most-places : Scale 28
+most-places = record { least = lit≤ tt; most = lit≤ tt }
+
+too-few : Scale 15 → ⊥
+too-few h = omega (arith, h .least)
+
+too-many : Scale 29 → ⊥
+too-many h = omega (arith, h .most)
+
+-- a half of one step, of each sign, is a tie
 half-a-step : productOf 24 (pos 1) (pos 8388608) ≡ pos 1
 unfolding rounded
 half-a-step = refl

@@ -1,20 +1,15 @@
 // The number on the board: products, quotients, their bounds, and roots of words at s binary places.
 ghost use mathlib.Core.Path.{_≡_};
-ghost use Prim.Native.Nat.{_<_, _≤_, _^_};
-ghost use lib.IntN.{natAbs};
-ghost use Rattle.word.specs.Rounded.{rounded};
-ghost use Rattle.word.specs.Words.{Scale, Factors, Division, Rootable, productOf, quotientOf, boundProduct, boundQuotient};
+ghost use Prim.Native.Nat.{_*_, _<_, _≤_, _^_};
+ghost use lib.IntN.{natAbs, _*ℤ_};
+ghost use Rattle.word.specs.Rounded.{lifted, rounded};
+ghost use Rattle.word.specs.Words.{largest, Scale, Factors, Division, Rootable, unit, withSign, productOf, quotientOf, boundProduct, boundQuotient};
 ghost use Rattle.word.specs.Root.{rootOf, rootWord};
 
-// One, in steps.
-fn unit(s: u32) -> u64
-    requires { ⌜ s ≤ 28 ⌝ }
-    ensures { λ r. ⌜ r ≡ 2 ^ s ⌝ }
-{
-    1u64 << (s as u64)
-}
+// M, the largest word.
+pub const LARGEST: u64 = 2147483647;
 
-// |x|. Of the pattern that is no word it is 2147483648.
+// |x|, the one place where a sign is taken off. Of the pattern that is no word it is 2147483648.
 pub fn magnitude(x: i32) -> u32
     ensures { λ r. ⌜ r ≡ natAbs x ⌝ }
 {
@@ -25,46 +20,92 @@ pub fn magnitude(x: i32) -> u32
     }
 }
 
-// The half is added before the shift, which rounds down.
-pub fn product(a: i32, b: i32, s: u32) -> i64
-    requires { ⌜ Factors s a b ⌝ }
-    ensures { λ r. ⌜ r ≡ productOf s a b ⌝ }
+// m, negated where the sign is set: the one place where a sign is put back.
+pub fn with_sign(sign: bool, m: i64) -> i64
+    requires { ⌜ natAbs m < 2 ^ 63 ⌝ }
+    ensures { λ r. ⌜ r ≡ withSign sign m ⌝ }
 {
-    let n = (a as i64) * (b as i64);
-    let half = unit(s - 1) as i64;
-    (n + half) >> (s as i64)
+    if sign { -m } else { m }
+}
+
+fn power_of_two(k: u32) -> u64
+    requires { ⌜ k < 64 ⌝ }
+    ensures { λ r. ⌜ r ≡ 2 ^ k ⌝ }
+{
+    1u64 << (k as u64)
+}
+
+// a·b: the only multiplication.
+fn times(a: i64, b: i64) -> i64
+    requires { ⌜ (natAbs a ≤ 2 ^ 31) × (natAbs b < 2 ^ 32) ⌝ }
+    ensures { λ r. ⌜ r ≡ a *ℤ b ⌝ }
+{
+    a * b
+}
+
+// a·2^s, by a shift.
+fn scaled(a: u32, s: u32) -> u64
+    requires { ⌜ Scale s ⌝ }
+    ensures { λ r. ⌜ r ≡ a * unit s ⌝ }
+{
+    (a as u64) << (s as u64)
+}
+
+// What is rounded down in place of n, where `half` is half of the divisor. Nothing else decides where a tie goes.
+fn lifted(n: i64, half: u64) -> i64
+    requires { ⌜ (natAbs n < 2 ^ 62) × (half < 2 ^ 62) ⌝ }
+    ensures { λ r. ⌜ r ≡ lifted n half ⌝ }
+{
+    n + (half as i64)
+}
+
+// n / 2^cut, rounded: the shift rounds down.
+pub fn rounded_shift(n: i64, cut: u32) -> i64
+    requires { ⌜ (natAbs n < 2 ^ 62) × (0 < cut) × (cut < 63) ⌝ }
+    ensures { λ r. ⌜ r ≡ rounded n (2 ^ cut) ⌝ }
+{
+    lifted(n, power_of_two(cut - 1)) >> (cut as i64)
 }
 
 // m / d, rounded. Division truncates towards zero, so a negative remainder takes one more off.
+// The sum `d + d` is one of 32 bits, which tells the compiler that the divisor is short.
 fn nearest(m: i64, d: u32) -> i64
-    requires { ⌜ (0 < d) × (natAbs m ≤ 2 ^ 60) ⌝ }
+    requires { ⌜ (0 < d) × (d ≤ largest) × (natAbs m ≤ 2 ^ 60) ⌝ }
     ensures { λ r. ⌜ r ≡ rounded m d ⌝ }
 {
-    let e = d as i64;
-    let t = m + m + e;
-    let w = e + e;
+    let t = lifted(m + m, d as u64);
+    let w = (d + d) as i64;
     let q = t / w;
     if t % w < 0 { q - 1 } else { q }
 }
 
+pub fn product(a: i32, b: i32, s: u32) -> i64
+    requires { ⌜ Factors s a b ⌝ }
+    ensures { λ r. ⌜ r ≡ productOf s a b ⌝ }
+{
+    rounded_shift(times(a as i64, b as i64), s)
+}
+
+// The divisor's sign goes to the numerator. There is a call for each sign, since one branch costs less than two choices.
 pub fn quotient(a: i32, d: i32, s: u32) -> i64
     requires { ⌜ Division s a d ⌝ }
     ensures { λ r. ⌜ r ≡ quotientOf s a d ⌝ }
 {
-    let m = (a as i64) * (unit(s) as i64);
+    let m = (a as i64) << (s as i64);
     if d < 0 {
-        nearest(0 - m, (0 - d) as u32)
+        nearest(with_sign(true, m), magnitude(d))
     } else {
-        nearest(m, d as u32)
+        nearest(m, magnitude(d))
     }
 }
 
+// The first factor is the size of a 32-bit pattern at most, so that the product fits.
 pub fn bound_product(a: u32, b: u32, s: u32) -> u64
-    requires { ⌜ Scale s ⌝ }
+    requires { ⌜ Scale s × (a ≤ 2 ^ 31) ⌝ }
     ensures { λ r. ⌜ r ≡ boundProduct s a b ⌝ }
 {
-    let n = (a as u64) * (b as u64);
-    (n + (unit(s) - 1)) >> (s as u64)
+    let n = times(a as i64, b as i64) as u64;
+    (n + (power_of_two(s) - 1)) >> (s as u64)
 }
 
 pub fn bound_quotient(a: u32, d: u32, s: u32) -> u64
@@ -72,7 +113,7 @@ pub fn bound_quotient(a: u32, d: u32, s: u32) -> u64
     ensures { λ r. ⌜ r ≡ boundQuotient s a d ⌝ }
 {
     let e = d as u64;
-    ((a as u64) * unit(s) + (e - 1)) / e
+    (scaled(a, s) + (e - 1)) / e
 }
 
 // The root of v by Heron's rule, from 2 to the power of half the binary digits, rounded up, which is above the root.
@@ -86,7 +127,7 @@ fn heron(v: u64) -> u64
         return 0;
     }
     let b = 64 - u64::leading_zeros(v);
-    let mut less = (1u64 << (((b + 1) / 2) as u64)) - 1;
+    let mut less = power_of_two((b + 1) / 2) - 1;
     loop {
         let w = less + 1;
         let next = (w + v / w) / 2;
@@ -101,5 +142,5 @@ pub fn root(x: i32, s: u32) -> i32
     requires { ⌜ Rootable s x ⌝ }
     ensures { λ r. ⌜ r ≡ rootWord s x ⌝ }
 {
-    heron((x as u64) << (s as u64)) as i32
+    heron(scaled(x as u32, s)) as i32
 }

@@ -4,7 +4,7 @@ use mathlib.Core.Bool.{true≢false}
 use mathlib.Core.Logic.{⊎-elim}
 use Prim.Native.Nat.{_<_, _≤_}
 use native.Mathlib.Omega.{arith}
-use lib.IntN.{ℤ, pos, negsuc, natAbs}
+use lib.IntN.{ℤ, pos, negℤ, natAbs}
 use lib.Signed.{_<ℤ_}
 use mir.Syntax.{w32}
 use Rattle.whole.proofs.Diff.{abs-is}
@@ -12,46 +12,47 @@ use Rattle.whole.proofs.Fit.{fit-abs}
 use Rattle.whole.proofs.Held.{fits-code, held, arg, lit, cast, tested-lt, tested-ge}
 use Rattle.whole.proofs.Linear.{zarith}
 use Rattle.whole.proofs.Order.{abs-le}
+use Rattle.word.specs.Words.{largest}
 use Rattle.door.specs.declared.answer.Taken.the-variants.{Word}
-use Rattle.door.proofs.TakenLaws.{is-word, no-word}
+use Rattle.door.proofs.TakenLaws.{as-word-yes, as-word-no}
 use Rattle.door.proofs.as_word.Statement.{statement}
 use Rattle.door.proofs.as_word.Tie as tie
 
-below-all : (z : ℤ) → z <ℤ negsuc 2147483646 → 2147483647 < natAbs z
+below-all : (z : ℤ) → z <ℤ negℤ (pos largest) → largest < natAbs z
 below-all z h = omega (zarith, abs-is z)
 
-above-all : (z : ℤ) → pos 2147483647 <ℤ z → 2147483647 < natAbs z
+above-all : (z : ℤ) → pos largest <ℤ z → largest < natAbs z
 above-all z h = omega (zarith, abs-is z)
 
 -- `||` joins its two flags: the second is tested where the first is false
-outside : (c : tie.Then2) → 2147483647 < natAbs (c .before .before .args .z)
+outside : (c : tie.Then2) → largest < natAbs (c .before .before .args .z)
 outside c =
     let z = c .before .before .args .z in
     let held-z = arg (c .before .before .fits .z) in
     ⊎-elim
-    (λ p. below-all z (tested-lt held-z (lit (negsuc 2147483646) tt) (p .0 .taken)))
-    (λ p. above-all z (tested-lt (lit (pos 2147483647) tt) held-z (sym (p .1) ∙ c .if2 .taken)))
+    (λ p. below-all z (tested-lt held-z (lit (negℤ (pos largest)) tt) (p .0 .taken)))
+    (λ p. above-all z (tested-lt (lit (pos largest) tt) held-z (sym (p .1) ∙ c .if2 .taken)))
     (c .before .if1 .came)
 
-inside : (c : tie.Else2) → natAbs (c .before .before .args .z) ≤ 2147483647
+inside : (c : tie.Else2) → natAbs (c .before .before .args .z) ≤ largest
 inside c =
     let z = c .before .before .args .z in
     let held-z = arg (c .before .before .fits .z) in
     ⊎-elim
     (λ p. absurd (true≢false (sym (p .0 .taken) ∙ sym (p .1) ∙ c .if2 .left)))
-    (λ p. abs-le z 2147483647 (tested-ge held-z (lit (negsuc 2147483646) tt) (p .0 .left)) (tested-ge (lit (pos 2147483647) tt) held-z (sym (p .1) ∙ c .if2 .left)))
+    (λ p. abs-le z largest (tested-ge held-z (lit (negℤ (pos largest)) tt) (p .0 .left)) (tested-ge (lit (pos largest) tt) held-z (sym (p .1) ∙ c .if2 .left)))
     (c .before .if1 .came)
 
 cast-t5 : tie.Need-cast-t5
 cast-t5 c = fits-code (cast {w′ = w32} (arg (c .before .before .fits .z)) (fit-abs (omega (arith, inside c))))
 
 returns : tie.Need-returns
-returns c = sym (no-word (c .before .before .args .z) (outside c))
+returns c = sym (as-word-no (c .before .before .args .z) (outside c))
 
 returns-2 : tie.Need-returns-2
 returns-2 c =
     let z = c .before .before .args .z in
-    ap Word (held (cast {w′ = w32} (arg (c .before .before .fits .z)) (fit-abs (omega (arith, inside c))))) ∙ sym (is-word z (inside c))
+    ap Word (held (cast {w′ = w32} (arg (c .before .before .fits .z)) (fit-abs (omega (arith, inside c))))) ∙ sym (as-word-yes z (inside c))
 
 pub as-word-spec : {M : Type 1} → statement M
 as-word-spec = tie.close (tie.spec cast-t5 returns returns-2)

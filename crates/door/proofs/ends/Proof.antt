@@ -11,8 +11,8 @@ use Rattle.door.proofs.ends.Tie as tie
 returns : tie.Need-returns
 returns c =
     let start = c .before .before in (
-      subst (λ (z : ℤ). Exactly 24 z (c .before .shown .result)) (toZ-ofZ w32 (start .args .lo) (start .fits .lo)) (c .before .shown .ensures),
-      subst (λ (z : ℤ). Exactly 24 z (c .shown2 .result)) (toZ-ofZ w32 (start .args .hi) (start .fits .hi)) (c .shown2 .ensures),
+      subst (λ (z : ℤ). Exactly (start .args .s) z (c .before .shown .result)) (toZ-ofZ w32 (start .args .lo) (start .fits .lo)) (c .before .shown .ensures),
+      subst (λ (z : ℤ). Exactly (start .args .s) z (c .shown2 .result)) (toZ-ofZ w32 (start .args .hi) (start .fits .hi)) (c .shown2 .ensures),
     )
 
 pub ends-spec : {M : Type 1} → statement M

@@ -1,15 +1,32 @@
--- `door::shown` meets its contract: w, read back from its bits, is w.
+-- `door::shown` meets its contract: w is read back from its bits, and `1 << s` does not wrap.
 use borrow.Author.Needs.{needs}
-use mathlib.Core.Path.{subst}
-use lib.IntN.{ℤ}
+use mathlib.Core.Path.{_≡_, sym, ap₂, _∙_, subst}
+use Prim.Native.Nat.{ℕ, _*_, _%_, _^_, _≤_}
+use native.Mathlib.Nat.{one-mul, mod-eq-of-lt}
+use native.Mathlib.Omega.{arith}
+use lib.IntN.{ℤ, pos}
+use lib.Pow.{pow-lt}
+use lib.Ieee.{binary64, div, ofInt}
 use mir.Syntax.{w32}
 use mir.ValLaws.{toZ-ofZ}
+use Rattle.whole.proofs.Diff.{v, size}
+use Rattle.whole.proofs.Fit.{fit-out}
 use Rattle.door.specs.Exact.{Exactly}
+use Rattle.door.proofs.ExactLaws.{exactly-quotient}
 use Rattle.door.proofs.shown.Statement.{statement}
 use Rattle.door.proofs.shown.Tie as tie
 
+unit-is : (s : ℕ) → s ≤ 28 → 1 * 2 ^ s % 2 ^ 32 ≡ 2 ^ s
+unit-is s h = mod-eq-of-lt (rw one-mul (pow-lt {j = 32} (omega arith))) ∙ one-mul (2 ^ s)
+
 returns : tie.Need-returns
-returns c = subst (λ (z : ℤ). Exactly 24 z (c .shown-at .result)) (toZ-ofZ w32 (c .before .args .w) (c .before .fits .w)) (c .shown-at .ensures)
+returns c =
+    let start = c .before .before in
+    let w = start .args .w in
+    let s = start .args .s in
+    subst (Exactly s w)
+    (sym (ap₂ (λ (z : ℤ) (u : ℕ). div binary64 (ofInt binary64 z) (ofInt binary64 (pos u))) (toZ-ofZ w32 w (start .fits .w)) (unit-is s (start .pre .most))))
+    (exactly-quotient s w (omega (arith, start .pre .most)) (omega (arith, size (v w), fit-out (v w) (start .fits .w))))
 
 pub shown-spec : {M : Type 1} → statement M
-shown-spec = tie.close (tie.spec (λ c κs. search needs) returns)
+shown-spec = tie.close (tie.spec (λ c. search needs) (λ c. search needs) (λ c. search needs) returns)

@@ -13,7 +13,7 @@ use Rattle.word.specs.Words.{Word}
 use Rattle.stored.specs.Words.{words}
 use Rattle.stored.proofs.WordsLaws.{length-words}
 use Rattle.admission.specs.Admission.{Judged}
-use Rattle.admission.specs.Lists.{Words}
+use Rattle.word.specs.Lists.{Words}
 use Rattle.admission.specs.declared.Admission.{Admission}
 use Rattle.admission.specs.declared.Admission.the-variants.{Admitted, RangeLeft}
 use Rattle.admission.proofs.AdmissionLaws.{left-not, zero-not}
@@ -188,6 +188,7 @@ admit-inner-spec =
     (λ c. search needs)
     (λ c κs. search needs)
     (λ c κs. search needs)
+    (λ c. search needs)
     returns
     returns-2
     loop-holds

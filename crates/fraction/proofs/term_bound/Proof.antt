@@ -86,6 +86,7 @@ term-bound-spec =
     tie.close
     (tie.spec
     (λ c κs. search needs)
+    (λ c. search needs)
     returns
     (λ c κs. search needs)
     returns-2

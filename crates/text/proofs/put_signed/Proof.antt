@@ -1,3 +1,4 @@
+-- `text::put_signed` meets its contract: the sign, then the digits of the size.
 use borrow.Author.Needs.{needs}
 use mathlib.Core.Path.{_≡_}
 use Prim.Native.Nat.{_≤_, _<_}

@@ -1,15 +1,33 @@
+-- `walking::record_fault` meets its contract: an arm for a start, one for an end, and one for the others.
 use borrow.Author.Needs.{needs}
+use mathlib.Core.Path.{_≡_, _∙_, sym}
+use Prim.Native.Nat.{ℕ}
+use denote.Ref.{now}
+use Rattle.layout.specs.Fields.{codeOf}
+use Rattle.walking.proofs.Classes.{at-start, at-end, at-other}
 use Rattle.walking.proofs.record_fault.Statement.{statement}
 use Rattle.walking.proofs.record_fault.Tie as tie
 
+-- the code that was read
+named : (c : tie.After-code) {n : ℕ} → c .code .result ≡ n → codeOf (now (c .before .before .args .b)) ≡ n
+named c e = sym (c .code .ensures) ∙ e
+
 returns : tie.Need-returns
-returns c = ?
+returns c =
+    let a = c .before .before .before .before .args in
+    c .start-fault .ensures ∙ at-start (a .s) (a .from) (now (a .b)) (a .w) (named (c .before .before) (c .before .match .keys1))
 
 returns-2 : tie.Need-returns-2
-returns-2 c = ?
+returns-2 c =
+    let a = c .before .before .before .before .args in
+    c .end-fault .ensures ∙ at-end (a .s) (a .from) (now (a .b)) (a .w) (named (c .before .before) (c .before .match .keys2))
 
 returns-3 : tie.Need-returns-3
-returns-3 c = ?
+returns-3 c =
+    let a = c .before .before .before .before .args in
+    let d = c .before .match .rest in
+    let e = c .before .before .code .ensures in
+    c .formula-fault .ensures ∙ at-other (a .s) (a .from) (now (a .b)) (a .w) (λ z. d .0 .1 (e ∙ z)) (λ z. d .1 (e ∙ z))
 
 pub record-fault-spec : {M : Type 1} → statement M
 record-fault-spec =

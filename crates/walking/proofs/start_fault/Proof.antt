@@ -1,16 +1,19 @@
+-- `walking::start_fault` meets its contract: the place, then the two links of its chain.
 use borrow.Author.Needs.{needs}
+use borrow.Author.Tests.{eq-eqb, ne-eqb}
+use mathlib.Core.Path.{_∙_, sym}
+use Rattle.records.proofs.Chain.{stop, pass}
 use Rattle.walking.proofs.start_fault.Statement.{statement}
 use Rattle.walking.proofs.start_fault.Tie as tie
 
 returns : tie.Need-returns
-returns c = ?
+returns c = simp (ne-eqb _ _ (c .if1 .taken))
 
 returns-2 : tie.Need-returns-2
-returns-2 c = ?
+returns-2 c = rw (eq-eqb _ _ (c .before .before .if1 .left)) (stop _ (c .before .start-fault .ensures) (c .if2 .taken))
 
 returns-3 : tie.Need-returns-3
-returns-3 c = ?
+returns-3 c = rw (eq-eqb _ _ (c .before .before .before .if1 .left)) (pass (c .before .before .start-fault .ensures) (c .before .if2 .left) (c .scale-fault .ensures))
 
 pub start-fault-spec : {M : Type 1} → statement M
-start-fault-spec =
-    tie.close (tie.spec returns (λ c κs. search needs) returns-2 (λ c κs. search needs) returns-3)
+start-fault-spec = tie.close (tie.spec returns (λ c κs. search needs) returns-2 (λ c κs. search needs) returns-3)

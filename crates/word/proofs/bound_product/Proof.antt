@@ -1,44 +1,66 @@
+-- `word::bound_product` meets its contract: the product is not below 0, and the sum that rounds it up fits.
 use borrow.Author.Needs.{needs}
-use mathlib.Core.Path.{ap, _∙_}
-use Prim.Native.Nat.{ℕ, _+_, _*_, _-_, _/_, _^_, _<_, _≤_}
+use mathlib.Core.Path.{ap₂, _∙_}
+use Prim.Native.Nat.{ℕ, _+_, _*_, _-_, _/_, _^_, _≤_}
 use native.Mathlib.Nat.{mul-le-mul}
 use native.Mathlib.Omega.{arith}
+use lib.IntN.{pos, _*ℤ_}
 use lib.Pow.{pow-pos, pow-mono}
+use mir.Syntax.{w64}
+use Rattle.whole.proofs.Diff.{n}
+use Rattle.whole.proofs.Fit.{fit}
+use Rattle.whole.proofs.Held.{Held, held, held-nat, cast-nat, arg, known}
+use Rattle.whole.proofs.Order.{pos-le}
 use Rattle.word.proofs.RoundedLaws.{up-as}
 use Rattle.word.proofs.bound_product.Statement.{statement}
 use Rattle.word.proofs.bound_product.Tie as tie
 
-times-most : (a b : ℕ) → a < 2 ^ 32 → b < 2 ^ 32 → a * b ≤ 18446744065119617025
-times-most a b f g = mul-le-mul {n₁ = a} {m₁ = b} {n₂ = 4294967295} {m₂ = 4294967295} (omega arith) (omega arith)
+module _ (c : tie.Start) where
+  held-a : Held w64 (pos (c .args .a)) (pos (c .args .a))
+  held-a = arg (fit (n (c .args .a)) (omega arith))
 
--- src/lib.rt:49:13
-mul-n : tie.Need-mul-n
-mul-n c = omega (arith, times-most (c .args .a) (c .args .b) (c .fits .a .fits) (c .fits .b .fits))
+  held-b : Held w64 (pos (c .args .b)) (pos (c .args .b))
+  held-b = arg (fit (n (c .args .b)) (omega arith))
 
--- src/lib.rt:50:11
-unit-requires : tie.Need-unit-requires
-unit-requires c κs = search needs
+  n-most : c .args .a * c .args .b ≤ 9223372034707292160
+  n-most =
+      let b : c .args .b ≤ 4294967295 = omega (arith, c .fits .b .fits) in
+      mul-le-mul (c .pre .1) b
 
--- src/lib.rt:50:11
+held-n : (c : tie.After-times) → Held w64 (c .times .result) (pos (c .before .args .a * c .before .args .b))
+held-n c =
+    let d = c .before in
+    known (c .times .ensures ∙ ap₂ _*ℤ_ (held (held-a d)) (held (held-b d))) (fit (n (d .args .a * d .args .b)) (omega (arith, n-most d)))
+
+times-requires : tie.Need-times-requires
+times-requires c κs = (omega (arith, held-nat (held-a c), c .pre .1), omega (arith, held-nat (held-b c), c .fits .b .fits))
+
+cast-n : tie.Need-cast-n
+cast-n c = cast-nat (held-n c) (pos-le (omega arith)) (omega (arith, n-most (c .before)))
+
 sub-result : tie.Need-sub-result
-sub-result c = omega (arith, c .unit .ensures, pow-pos (c .before .args .s))
+sub-result c = omega (arith, c .power-of-two .ensures, pow-pos (c .before .before .args .s))
 
--- src/lib.rt:50:6
 add-result : tie.Need-add-result
 add-result c =
-    let d = c .before in
-    omega (arith, c .unit .ensures, pow-mono {i = d .args .s} {j = 28} (d .pre .most), times-most (d .args .a) (d .args .b) (d .fits .a .fits) (d .fits .b .fits))
+    let d = c .before .before in
+    record { fits = omega (arith, held-nat (held-n (c .before)), n-most d, c .power-of-two .ensures, pow-mono {i = d .args .s} {j = 28} (d .pre .0 .most)) }
 
--- src/lib.rt:50:5
-shr-result : tie.Need-shr-result
-shr-result c = search needs
-
--- src/lib.rt:45:1
 returns : tie.Need-returns
 returns c =
-    let d = c .before in
-    ap (λ (u : ℕ). (d .args .a * d .args .b + (u - 1)) / 2 ^ d .args .s) (c .unit .ensures) ∙ up-as (d .args .a * d .args .b) (2 ^ d .args .s)
+    let d = c .before .before in
+    ap₂ (λ (k u : ℕ). (k + (u - 1)) / 2 ^ d .args .s) (held-nat (held-n (c .before))) (c .power-of-two .ensures) ∙ up-as (d .args .a * d .args .b) (2 ^ d .args .s)
 
 pub bound-product-spec : {M : Type 1} → statement M
 bound-product-spec =
-    tie.close (tie.spec mul-n unit-requires sub-result add-result shr-result returns)
+    tie.close
+    (tie.spec
+    (λ c. search needs)
+    (λ c. search needs)
+    times-requires
+    cast-n
+    (λ c κs. search needs)
+    sub-result
+    add-result
+    (λ c. search needs)
+    returns)

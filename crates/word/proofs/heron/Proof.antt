@@ -1,13 +1,13 @@
 -- `word::heron` meets its contract. The invariant, of w = less + 1: its size leaves room for the sum, and the root is not above it.
-use mathlib.Core.Path.{_≡_, sym, _∙_, subst}
-use Prim.Native.Nat.{ℕ, zero, suc, _+_, _-_, _*_, _/_, _%_, _^_, _<_, _≤_}
-use native.Mathlib.Nat.{one-mul, mod-eq-of-lt, div-add-mod, div-le-self}
+use mathlib.Core.Path.{_≡_, sym, subst}
+use Prim.Native.Nat.{ℕ, zero, suc, _+_, _-_, _*_, _/_, _^_, _<_, _≤_}
+use native.Mathlib.Nat.{div-add-mod, div-le-self}
 use native.Mathlib.Decide.{decLe}
 use native.Mathlib.Omega.{arith}
 use lib.Count.{leadingZeros, leading-le, leading-length}
-use lib.Pow.{pow-lt, pow-pos, pow-mono}
+use lib.Pow.{pow-pos, pow-mono}
 use Rattle.word.proofs.RootLaws.{root-is}
-use Rattle.word.proofs.HeronLaws.{heron, not-below, ended, start-above}
+use Rattle.word.proofs.HeronLaws.{heron, not-below, heron-ended, start-above}
 use Rattle.word.proofs.heron.Statement.{statement}
 use Rattle.word.proofs.heron.Tie as tie
 
@@ -46,9 +46,6 @@ few v h =
 exponent-most : (v : ℕ) → v < 2 ^ 60 → (digits v + 1) / 2 ≤ 30
 exponent-most v h = omega (arith, few v h .1, div-add-mod (digits v + 1) 2)
 
-start-is : (v : ℕ) → v < 2 ^ 60 → 1 * start v % 2 ^ 64 ≡ start v
-start-is v h = mod-eq-of-lt (rw one-mul (pow-lt {j = 64} (omega (arith, exponent-most v h)))) ∙ one-mul (start v)
-
 first : (v : ℕ) → v < 2 ^ 60 → Above v (start v)
 first v h = (
   pow-pos ((digits v + 1) / 2),
@@ -71,22 +68,20 @@ returns c = root-is (c .before .args .v) 0 (omega arith) (omega (arith, c .if1 .
 sub-b : tie.Need-sub-b Inv-loop μ-loop
 sub-b c = leading-le 64 (c .before .args .v)
 
-add-less : tie.Need-add-less Inv-loop μ-loop
-add-less c = record { fits = omega arith }
+add-power-of-two : tie.Need-add-power-of-two Inv-loop μ-loop
+add-power-of-two c = record { fits = omega arith }
 
-cast-less : tie.Need-cast-less Inv-loop μ-loop
-cast-less c = record { fits = omega (arith, div-le-self (digits (c .before .args .v) + 1) 2) }
+power-of-two-requires : tie.Need-power-of-two-requires Inv-loop μ-loop
+power-of-two-requires c κs = omega (arith, exponent-most (c .before .args .v) (c .before .pre))
 
-shl-less : tie.Need-shl-less Inv-loop μ-loop
-shl-less c = omega (arith, div-add-mod (digits (c .before .args .v) + 1) 2)
+started : (c : tie.After-power-of-two Inv-loop μ-loop) → Above (c .before .before .args .v) (c .power-of-two .result)
+started c = subst (Above (c .before .before .args .v)) (sym (c .power-of-two .ensures)) (first (c .before .before .args .v) (c .before .before .pre))
 
 sub-less : tie.Need-sub-less Inv-loop μ-loop
-sub-less c = omega (arith, start-is (c .before .args .v) (c .before .pre), first (c .before .args .v) (c .before .pre) .0)
+sub-less c = started c .0
 
 loop-holds : tie.Need-loop-holds Inv-loop μ-loop
-loop-holds c =
-    let d = c .before in
-    one-less (d .args .v) _ (subst (Above (d .args .v)) (sym (start-is (d .args .v) (d .pre))) (first (d .args .v) (d .pre)))
+loop-holds c = one-less (c .before .before .args .v) _ (started c)
 
 add-w : tie.Need-add-w Inv-loop μ-loop
 add-w c = record { fits = omega (arith, c .loop .inv .1) }
@@ -95,10 +90,10 @@ div-next : tie.Need-div-next Inv-loop μ-loop
 div-next c = c .loop .inv .0
 
 add-next : tie.Need-add-next Inv-loop μ-loop
-add-next c = record { fits = omega (arith, c .loop .inv .1, c .before .before .pre, div-le-self (c .before .before .args .v) (c .loop .less + 1)) }
+add-next c = record { fits = omega (arith, c .loop .inv .1, c .before .before .before .pre, div-le-self (c .before .before .before .args .v) (c .loop .less + 1)) }
 
-again : (c : tie.Else2 Inv-loop μ-loop) → Above (c .before .before .before .args .v) (heron (c .before .before .before .args .v) (c .before .loop .less + 1))
-again c = next (c .before .before .before .args .v) (c .before .loop .less + 1) (omega (arith, c .before .before .if1 .left)) (c .before .loop .inv) (c .if2 .left)
+again : (c : tie.Else2 Inv-loop μ-loop) → Above (c .before .before .before .before .args .v) (heron (c .before .before .before .before .args .v) (c .before .loop .less + 1))
+again c = next (c .before .before .before .before .args .v) (c .before .loop .less + 1) (omega (arith, c .before .before .before .if1 .left)) (c .before .loop .inv) (c .if2 .left)
 
 sub-less-2 : tie.Need-sub-less-2 Inv-loop μ-loop
 sub-less-2 c = again c .0
@@ -107,13 +102,13 @@ loop-less : tie.Need-loop-less Inv-loop μ-loop
 loop-less c = omega (arith, c .if2 .left, again c .0)
 
 loop-again : tie.Need-loop-again Inv-loop μ-loop
-loop-again c = one-less (c .before .before .before .args .v) _ (again c)
+loop-again c = one-less (c .before .before .before .before .args .v) _ (again c)
 
 returns-2 : tie.Need-returns-2 Inv-loop μ-loop
 returns-2 c =
-    let v = c .before .before .before .args .v in
+    let v = c .before .before .before .before .args .v in
     let w = c .before .loop .less + 1 in
-    root-is v w (ended v w (c .if2 .taken)) (c .before .loop .inv .2)
+    root-is v w (heron-ended v w (c .if2 .taken)) (c .before .loop .inv .2)
 
 pub heron-spec : {M : Type 1} → statement M
 heron-spec =
@@ -123,9 +118,8 @@ heron-spec =
     μ-loop
     returns
     sub-b
-    add-less
-    cast-less
-    shl-less
+    add-power-of-two
+    power-of-two-requires
     sub-less
     loop-holds
     add-w

@@ -1,51 +1,50 @@
--- `word::root` meets its contract: what is handed to `heron` does not wrap, and its root is a word.
-use borrow.Author.Needs.{needs}
+-- `word::root` meets its contract: the scaled word is short enough for `heron`, and its root is a word.
 use mathlib.Core.Path.{_≡_, ap, _∙_}
-use Prim.Native.Nat.{ℕ, _*_, _%_, _^_, _<_}
-use native.Mathlib.Nat.{mod-eq-of-lt}
+use Prim.Native.Nat.{ℕ, _*_, _^_, _<_}
 use native.Mathlib.Omega.{arith}
 use lib.IntN.{pos, natAbs}
 use mir.Syntax.{w32}
+use mir.Val.{SFits}
 use Rattle.whole.proofs.Diff.{n}
 use Rattle.whole.proofs.Fit.{fit}
-use Rattle.whole.proofs.Held.{back, held, held-nat, cast-nat, arg}
+use Rattle.whole.proofs.Held.{held, held-nat, cast-nat, arg}
 use Rattle.word.specs.Root.{rootOf}
-use Rattle.word.proofs.RootLaws.{scaled-most, root-most}
+use Rattle.word.proofs.RootLaws.{root-most}
+use Rattle.word.proofs.WordLaws.{scaled-most}
 use Rattle.word.proofs.root.Statement.{statement}
 use Rattle.word.proofs.root.Tie as tie
 
 module _ (c : tie.Start) where
-  abbrev x : ℕ
-  x = natAbs (c .args .x)
+  abbrev v : ℕ
+  v = natAbs (c .args .x) * 2 ^ c .args .s
 
-  scaled : x * 2 ^ c .args .s < 2 ^ 60
-  scaled = scaled-most x (c .args .s) (c .pre .1) (c .pre .0 .most)
+  v-most : v < 2 ^ 60
+  v-most = scaled-most (natAbs (c .args .x)) (c .args .s) (omega (arith, c .pre .1)) (c .pre .0 .most)
 
-  -- what is handed to `heron`
-  v-is : natAbs (back w32 (c .args .x)) * 2 ^ c .args .s % 2 ^ 64 ≡ x * 2 ^ c .args .s
-  v-is = ap (λ (k : ℕ). k * 2 ^ c .args .s % 2 ^ 64) (held-nat (arg (c .fits .x))) ∙ mod-eq-of-lt (omega (arith, scaled))
+v-is : (c : tie.After-scaled) → c .scaled .result ≡ v (c .before)
+v-is c = c .scaled .ensures ∙ ap (λ (k : ℕ). k * 2 ^ c .before .args .s) (held-nat (arg (c .before .fits .x)))
 
 module _ (c : tie.After-heron) where
-  answer-is : c .heron .result ≡ rootOf (x (c .before) * 2 ^ c .before .args .s)
+  answer-is : c .heron .result ≡ rootOf (v (c .before .before))
   answer-is = c .heron .ensures ∙ ap rootOf (v-is (c .before))
 
-  answer-most : c .heron .result < 2 ^ 30
-  answer-most = omega (arith, answer-is, root-most (x (c .before) * 2 ^ c .before .args .s) (scaled (c .before)))
+  answer-fits : SFits w32 (pos (c .heron .result))
+  answer-fits = fit (n (c .heron .result)) (omega (arith, answer-is, root-most (v (c .before .before)) (v-most (c .before .before))))
 
-cast-heron : tie.Need-cast-heron
-cast-heron c = cast-nat (arg (c .fits .x)) (c .pre .2) (omega (arith, c .pre .1))
+cast-scaled : tie.Need-cast-scaled
+cast-scaled c = cast-nat (arg (c .fits .x)) (c .pre .2) (omega (arith, c .pre .1))
 
-shl-heron : tie.Need-shl-heron
-shl-heron c = search needs
+scaled-requires : tie.Need-scaled-requires
+scaled-requires c κs = c .pre .0
 
 heron-requires : tie.Need-heron-requires
-heron-requires c κs = omega (arith, v-is c, scaled c)
+heron-requires c κs = omega (arith, v-is c, v-most (c .before))
 
 cast-result : tie.Need-cast-result
-cast-result c = fit (n (c .heron .result)) (omega (arith, answer-most c))
+cast-result c = answer-fits c
 
 returns : tie.Need-returns
-returns c = held (arg {x = pos (c .heron .result)} (fit {w = w32} (n (c .heron .result)) (omega (arith, answer-most c)))) ∙ ap pos (answer-is c)
+returns c = held (arg (answer-fits c)) ∙ ap pos (answer-is c)
 
 pub root-spec : {M : Type 1} → statement M
-root-spec = tie.close (tie.spec cast-heron shl-heron heron-requires cast-result returns)
+root-spec = tie.close (tie.spec cast-scaled scaled-requires heron-requires cast-result returns)

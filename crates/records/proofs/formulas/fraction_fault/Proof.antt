@@ -15,7 +15,7 @@ use Rattle.table.specs.Table.{rows, firstRow, rowOf}
 use Rattle.table.proofs.Rule.{ruled}
 use Rattle.layout.specs.Fields.{shapeOf, loOf, hiOf, Complete}
 use Rattle.records.specs.Faults.{formulaFault}
-use Rattle.records.proofs.FormulaLaws.{front-stops, front-passes, front-complete, Found, reach-at, found-fault}
+use Rattle.records.proofs.FormulaLaws.{front-stops, front-passes, front-complete, front-most, Found, reach-at, found-fault}
 use Rattle.records.proofs.formulas.fraction_fault.Statement.{statement}
 use Rattle.records.proofs.formulas.fraction_fault.Tie as tie
 
@@ -80,7 +80,12 @@ admit-requires c κs =
     let e = h .before in
     let w = e .before .before in
     let d = whole e in
-    rw (shaped h) (reach-at (w .before .before .args .s) (r w) (b w) d Fraction (kind-is w), (w .before .before .pre .0, omega (arith, depth w, d .laid .p .0)))
+    let a = w .before .before .args in
+    rw (shaped h) (
+      reach-at (a .s) (r w) (b w) d Fraction (kind-is w),
+      (w .before .before .pre .0, omega (arith, depth w, d .laid .p .0)),
+      omega (arith, c .most .ensures, front-most (r w) (b w) (a .seen) (a .count) (a .next) (sym (e .before .front-fault .ensures) ∙ e .if1 .left)),
+    )
 
 admission-fault-requires : tie.Need-admission-fault-requires
 admission-fault-requires c κs = omega (arith, whole (c .before .before .before .before .before) .laid .exact)
