@@ -56,3 +56,12 @@ pub record SheetOf (s : ℕ) (c : ℕ) (bytes : List ℕ) : Type 0 where
   pub each : EachFormula s formulas
   pub rising : Rising 0 formulas
   pub closes : RecordOf EndRecord finish × (countOf finish ≡ c)
+
+-- a run of c formulas, as it stands between a start and an end
+pub record RunOf (s : ℕ) (c : ℕ) (bytes : List ℕ) : Type 0 where
+  pub formulas : List (List ℕ)
+  pub whole : bytes ≡ inLine formulas
+  pub many : length formulas ≡ c
+  pub most : c ≤ 64
+  pub each : EachFormula s formulas
+  pub rising : Rising 0 formulas

@@ -3,3 +3,6 @@ pub mod Classes
 pub mod Clear
 pub mod Records
 pub mod Going
+pub mod Formulas
+pub mod WalkToShape
+pub mod ShapeToWalk

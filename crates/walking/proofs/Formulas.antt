@@ -1,0 +1,100 @@
+-- A stretch of formula records, one behind the other: the walk goes past each, and is then where the next record stands.
+use mathlib.Core.Path.{_≡_, _∙_, refl, sym, ap, subst}
+use mathlib.Core.List.{List, [], _∷_, _++_, append-assoc}
+use mathlib.Core.Bool.{false, cond}
+use Prim.Native.Nat.{ℕ, zero, suc, _+_, _-_, _≤_, _<_}
+use native.Mathlib.Nat.{zero-add}
+use native.Mathlib.Omega.{arith}
+use lib.Dec.{eqb}
+use lib.ListN.{length, length-append}
+use borrow.Author.Tests.{ne-eqb, le-ltb}
+use Rattle.table.specs.declared.Class.{Class}
+use Rattle.table.specs.declared.Class.the-variants.{FormulaRecord}
+use Rattle.layout.specs.Fields.{rowFor, formulaNumber}
+use Rattle.records.specs.Faults.{lengthFault, orderFault}
+use Rattle.records.specs.Sheets.{RecordOf, FormulaBytes, EachFormula, Rising, inLine}
+use Rattle.walking.specs.Walking.{placeFault, classFault, recordHere, foundBy, afterFormula, onward, runDone, faultAt, walkFrom}
+use Rattle.walking.specs.declared.Walk.{Walk}
+use Rattle.walking.proofs.Clear.{no-fault, walk-on}
+use Rattle.walking.proofs.Records.{frame-there, bytes-there}
+
+-- the place that a walk notes on its way over formulas
+abbrev pub placeIn : ℕ → ℕ → ℕ → List (List ℕ) → ℕ
+placeIn asked at found [] = found
+placeIn asked at found (b ∷ bs) = placeIn asked (at + length b) (cond (eqb (formulaNumber b) asked) at found) bs
+
+-- the walk behind them
+unfoldable pub afterAll : List (List ℕ) → Walk → Walk
+afterAll [] w = w
+afterAll (b ∷ bs) w = afterAll bs (afterFormula b w)
+
+module _ (s : ℕ) (bytes : List ℕ) (from : ℕ) where
+  -- a record of a class stands at the walk's place, without fault
+  pub no-fault-there : (before b after : List ℕ) (k : Class) → RecordOf k b → (w : Walk) → bytes ≡ before ++ (b ++ after) → w .at ≡ from + length before → placeFault from k (w .at) ≡ 0 → classFault s k (rowFor b) b w ≡ 0
+      → (faultAt s bytes from w ≡ 0) × (recordHere bytes from w ≡ b)
+  no-fault-there before b after k r w q a p c =
+      let n : w .at - from ≡ length before = omega (arith, a) in
+      let h : recordHere bytes from w ≡ b = rw (n, q) (bytes-there before b after k r) in (
+        no-fault s bytes from w
+            (record {
+              frame = rw (n, q) (frame-there before b after k r);
+              place = subst (λ (x : List ℕ). placeFault from (rowFor x .class) (w .at) ≡ 0) (sym h) (subst (λ (j : Class). placeFault from j (w .at) ≡ 0) (sym (r .class)) p);
+              size = subst (λ (x : List ℕ). lengthFault (rowFor x) x ≡ 0) (sym h) (r .exact);
+              content = subst (λ (x : List ℕ). classFault s (rowFor x .class) (rowFor x) x w ≡ 0) (sym h) (subst (λ (j : Class). classFault s j (rowFor b) b w ≡ 0) (sym (r .class)) c);
+            }),
+        h,
+      )
+
+  -- a run is not done before a record
+  pub not-done : (before b after : List ℕ) (w : Walk) → bytes ≡ before ++ (b ++ after) → w .at ≡ from + length before → 8 ≤ length b → runDone bytes from w ≡ false
+  not-done before b after w q a l = by from refl
+    where
+      long : length bytes ≡ length before + (length b + length after)
+      long = ap length q ∙ length-append before (b ++ after) ∙ ap (λ (n : ℕ). length before + n) (length-append b after)
+
+      by : (f : ℕ) → from ≡ f → runDone bytes f w ≡ false
+      by zero e = refl
+      by (suc n) e = ne-eqb (w .at - suc n) (length bytes) (λ z. omega (arith, z, a, e, long, l))
+
+  pub past-one : (before b after : List ℕ) (w : Walk) (k : ℕ) → bytes ≡ before ++ (b ++ after) → w .at ≡ from + length before → (w .at ≡ 0 → ⊥) → (w .seen ≡ w .count → ⊥) → FormulaBytes s b → w .next ≤ formulaNumber b
+      → walkFrom (suc k) s bytes from w ≡ walkFrom k s bytes from (afterFormula b w)
+  unfolding orderFault
+  past-one before b after w k q a z m f o =
+      let c = no-fault-there before b after FormulaRecord (f .one) w q a (simp (ne-eqb (w .at) 0 z))
+      (simp (ne-eqb (w .seen) (w .count) m, le-ltb (formulaNumber b) (w .next) o) (f .inner)) in
+      walk-on s bytes from w k (not-done before b after w q a (f .one .least)) (c .0)
+      ∙ ap (λ (x : List ℕ). onward (walkFrom k s bytes from) (rowFor x .class) x w (length bytes)) (c .1)
+      ∙ ap (λ (j : Class). onward (walkFrom k s bytes from) j b w (length bytes)) (f .one .class)
+
+  pub past-all : (fs : List (List ℕ)) (before after : List ℕ) (w : Walk) (k : ℕ) → bytes ≡ before ++ (inLine fs ++ after) → w .at ≡ from + length before → (w .at ≡ 0 → ⊥) → w .seen + length fs ≤ w .count → EachFormula s fs → Rising (w .next) fs
+      → walkFrom (length fs + k) s bytes from w ≡ walkFrom k s bytes from (afterAll fs w)
+  unfolding afterAll
+  past-all [] before after w k q a z m f o = ap (λ (n : ℕ). walkFrom n s bytes from w) (zero-add k)
+  past-all (b ∷ bs) before after w k q a z m f o =
+      let q′ = q ∙ ap (λ (t : List ℕ). before ++ t) (append-assoc b (inLine bs) after) in
+      let n : length (b ∷ bs) + k ≡ suc (length bs + k) = omega arith in
+      ap (λ (j : ℕ). walkFrom j s bytes from w) n
+      ∙ past-one before b (inLine bs ++ after) w (length bs + k) q′ a z (λ x. omega (arith, m, x)) (f .0) (o .0)
+      ∙ past-all bs (before ++ b) after (afterFormula b w) k (q′ ∙ sym (append-assoc before b (inLine bs ++ after))) (omega (arith, a, length-append before b)) (λ x. z (omega (arith, x))) (omega (arith, m)) (f .1) (o .1)
+
+-- ---- where the walk then is
+module _ (fs : List (List ℕ)) where
+  pub record Behind (w v : Walk) : Type 0 where
+    pub at : v .at ≡ w .at + length (inLine fs)
+    pub count : v .count ≡ w .count
+    pub seen : v .seen ≡ w .seen + length fs
+    pub asked : v .asked ≡ w .asked
+    pub found : v .found ≡ placeIn (w .asked) (w .at) (w .found) fs
+
+pub behind : (fs : List (List ℕ)) (w : Walk) → Behind fs w (afterAll fs w)
+unfolding afterAll foundBy
+behind [] w = record { at = omega arith; count = refl; seen = omega arith; asked = refl; found = refl }
+behind (b ∷ bs) w =
+    let i = behind bs (afterFormula b w) in
+    record {
+      at = omega (arith, i .at, length-append b (inLine bs));
+      count = i .count;
+      seen = omega (arith, i .seen);
+      asked = i .asked;
+      found = i .found;
+    }
