@@ -1,13 +1,14 @@
 -- When an argument is inside a formula's interval, and what is answered then.
 use mathlib.Core.Path.{_≡_, refl, sym, ap, _∙_}
 use mathlib.Core.Bool.{Bool, true, false, cond}
-use lib.Dec.{T, lit≤}
+use Prim.Native.Nat.{ℕ}
+use lib.Dec.{T}
 use lib.IntN.{ℤ}
 use lib.Signed.{_≤ℤ_, _<ℤ_, ltZ, clashℤ}
+use Rattle.word.specs.Words.{Scale}
 use Rattle.formula.specs.declared.Formula.{Formula}
 use Rattle.formula.specs.Formula.{answerOf, Answerable}
-use Rattle.records.specs.Faults.{places}
-use Rattle.sheet.specs.Reader.{Fit}
+use Rattle.sheet.specs.Reader.{wordsIn, Fit}
 use Rattle.board.specs.Board.{refused, answered, answerAt}
 use Rattle.board.specs.declared.answers.Evaluation.{Evaluation}
 
@@ -25,15 +26,15 @@ below {x} {y} h = is-true (ltZ x y) (h .lt)
 not-below : {x y : ℤ} → y ≤ℤ x → ltZ x y ≡ false
 not-below {x} {y} h = is-false (ltZ x y) (λ t. clashℤ (record { lt = t }) h)
 
-module _ (f : Formula) (x : ℤ) where
+module _ (s : ℕ) (f : Formula) (x : ℤ) where
   abbrev within : Evaluation
-  within = answered (answerOf places (f .shape) (f .words) x)
+  within = answered (answerOf s (f .shape) (wordsIn f) x)
 
-  pub below-low : x <ℤ f .lo → refused 10 ≡ answerAt f x
+  pub below-low : x <ℤ f .lo → refused 10 ≡ answerAt s f x
   unfolding answerAt
   below-low h = sym (ap (λ (b : Bool). cond b (refused 10) (cond (ltZ (f .hi) x) (refused 10) within)) (below h))
 
-  pub above-high : f .hi <ℤ x → refused 10 ≡ answerAt f x
+  pub above-high : f .hi <ℤ x → refused 10 ≡ answerAt s f x
   unfolding answerAt
   above-high h = at (ltZ x (f .lo))
     where
@@ -42,12 +43,12 @@ module _ (f : Formula) (x : ℤ) where
       at false = sym (ap (λ (b : Bool). cond b (refused 10) within) (below h))
 
   module _ (l : f .lo ≤ℤ x) where
-    past-low : answerAt f x ≡ cond (ltZ (f .hi) x) (refused 10) within
+    past-low : answerAt s f x ≡ cond (ltZ (f .hi) x) (refused 10) within
     unfolding answerAt
     past-low = ap (λ (b : Bool). cond b (refused 10) (cond (ltZ (f .hi) x) (refused 10) within)) (not-below l)
 
-    pub inside : x ≤ℤ f .hi → within ≡ answerAt f x
+    pub inside : x ≤ℤ f .hi → within ≡ answerAt s f x
     inside h = sym (past-low ∙ ap (λ (b : Bool). cond b (refused 10) within) (not-below h))
 
-    pub answerable : x ≤ℤ f .hi → Fit f → Answerable places (f .shape) (f .words) x
-    answerable h k = record { scale = record { least = lit≤ tt; most = lit≤ tt }; lo = f .lo; hi = f .hi; sound = k .sound; admitted = k .admitted; above = l; below = h }
+    pub answerable : x ≤ℤ f .hi → Scale s → Fit s f → Answerable s (f .shape) (wordsIn f) x
+    answerable h b k = record { scale = b; lo = f .lo; hi = f .hi; sound = k .sound; admitted = k .admitted; above = l; below = h }

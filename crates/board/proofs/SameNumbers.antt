@@ -1,12 +1,13 @@
 -- Promise: the paper's number and place are the same whichever way a refusal is shown.
 use mathlib.Core.Path.{_≡_, refl, ap}
+use Prim.Native.Nat.{ℕ}
 use Rattle.formula.specs.declared.Formula.{Formula}
-use Rattle.records.specs.declared.refusal.Refusal.{Refusal}
+use Rattle.records.specs.declared.Refusal.{Refusal}
 use Rattle.sheet.specs.Reader.{foundNumber, foundPlace}
 use Rattle.sheet.specs.declared.answers.Found.{Found}
 use Rattle.sheet.specs.declared.answers.Found.the-variants.{Given, Refused as Withheld}
 use Rattle.sheet.specs.declared.answers.Reading.{Reading}
-use Rattle.board.specs.Board.{numberOf, placeOf, shownNumber, shownPlace, intervalNumber, intervalPlace, ShownAs, IntervalBy, IntervalAs}
+use Rattle.board.specs.Board.{evaluationNumber, evaluationPlace, shownNumber, shownPlace, intervalNumber, intervalPlace, ShownAs, IntervalBy, IntervalAs}
 use Rattle.board.specs.declared.answers.Evaluation.{Evaluation}
 use Rattle.board.specs.declared.answers.Evaluation.the-variants.{Answered, Refused}
 use Rattle.board.specs.declared.answers.Shown.{Shown}
@@ -15,17 +16,17 @@ use Rattle.board.specs.declared.answers.Interval.{Interval}
 use Rattle.board.specs.declared.answers.Interval.the-variants.{Between, Refused as NoInterval}
 
 -- the door's refusal is the evaluation's
-pub shown-number : (e : Evaluation) (x : Shown) → ShownAs e x → (shownNumber x ≡ numberOf e) × (shownPlace x ≡ placeOf e)
-shown-number (Answered w) (Value x) p = (refl, refl)
-shown-number (Answered w) (NotShown r) p = absurd p
-shown-number (Refused q) (Value x) p = absurd p
-shown-number (Refused q) (NotShown r) p = (ap (λ (z : Refusal). z .number) p, ap (λ (z : Refusal). z .place) p)
+pub shown-number : (s : ℕ) (e : Evaluation) (x : Shown) → ShownAs s e x → (shownNumber x ≡ evaluationNumber e) × (shownPlace x ≡ evaluationPlace e)
+shown-number s (Answered w) (Value x) p = (refl, refl)
+shown-number s (Answered w) (NotShown r) p = absurd p
+shown-number s (Refused q) (Value x) p = absurd p
+shown-number s (Refused q) (NotShown r) p = (ap (λ (z : Refusal). z .number) p, ap (λ (z : Refusal). z .place) p)
 
 -- the interval's refusal is the reader's
-pub interval-number : (r : Reading) (i : Interval) → IntervalAs r i → (intervalNumber i ≡ foundNumber (r .found)) × (intervalPlace i ≡ foundPlace (r .found))
-interval-number r i p = by (r .found) (r .formula) i p
+pub interval-number : (s : ℕ) (r : Reading) (i : Interval) → IntervalAs s r i → (intervalNumber i ≡ foundNumber (r .found)) × (intervalPlace i ≡ foundPlace (r .found))
+interval-number s r i p = by (r .found) (r .formula) i p
   where
-    by : (a : Found) (f : Formula) (j : Interval) → IntervalBy a f j → (intervalNumber j ≡ foundNumber a) × (intervalPlace j ≡ foundPlace a)
+    by : (a : Found) (f : Formula) (j : Interval) → IntervalBy s a f j → (intervalNumber j ≡ foundNumber a) × (intervalPlace j ≡ foundPlace a)
     by Given f (Between e) q = (refl, refl)
     by Given f (NoInterval r) q = absurd q
     by (Withheld q) f (Between e) p = absurd p

@@ -10,17 +10,17 @@ use Rattle.polynomial.specs.Distance.{exactSum, spreadSum}
 use Rattle.formula.proofs.Distance.{polynomialShape, polynomial-distance}
 use Rattle.formula.specs.declared.Shape.{Shape}
 use Rattle.formula.specs.Formula.{Sound, answerOf}
-use Rattle.records.specs.Faults.{places}
-use Rattle.sheet.specs.Reader.{Answered}
+use Rattle.sheet.specs.Reader.{wordsIn, HasFormula}
 use Rattle.sheet.proofs.FormulasGiven.{given-fits}
-use Rattle.board.specs.Board.{wordOf, evaluated}
-use Rattle.board.proofs.AnswersInside.{formulaOf, answers-inside}
+use Rattle.board.specs.Board.{evaluationWord, evaluated}
+use Rattle.board.proofs.AnswersInside.{formulaIn, answers-inside}
 
-pub sheet-distance : (s : List ℕ) (k : ℕ) → Answered s k → (n q mode : ℕ) → formulaOf s k .shape ≡ polynomialShape n q mode → (x : ℤ) → formulaOf s k .lo ≤ℤ x → x ≤ℤ formulaOf s k .hi
-    → 2 * natAbs (wordOf (evaluated s k x) *ℤ pos (2 ^ (places * n)) -ℤ exactSum places (take (suc n) (formulaOf s k .words)) n x) ≤ spreadSum places n x
-sheet-distance s k given n q mode e x l h =
-    let f = formulaOf s k in
-    let sound = subst (λ (h : Shape). Sound h (f .lo) (f .hi) (f .words)) e (given-fits s k given .0 .sound) in
-    subst (λ (z : ℤ). 2 * natAbs (z *ℤ pos (2 ^ (places * n)) -ℤ exactSum places (take (suc n) (f .words)) n x) ≤ spreadSum places n x)
-    (sym (ap wordOf (answers-inside s k given x l h) ∙ ap (λ (h : Shape). answerOf places h (f .words) x) e))
-    (polynomial-distance places n q mode (f .lo) (f .hi) (f .words) x sound)
+pub sheet-distance : (s : ℕ) (bytes : List ℕ) (k : ℕ) → HasFormula s bytes k → (n q mode : ℕ) → formulaIn s bytes k .shape ≡ polynomialShape n q mode → (x : ℤ) → formulaIn s bytes k .lo ≤ℤ x → x ≤ℤ formulaIn s bytes k .hi
+    → 2 * natAbs (evaluationWord (evaluated s bytes k x) *ℤ pos (2 ^ (s * n)) -ℤ exactSum s (take (suc n) (wordsIn (formulaIn s bytes k))) n x) ≤ spreadSum s n x
+sheet-distance s bytes k given n q mode e x l h =
+    let f = formulaIn s bytes k in
+    let ws = wordsIn f in
+    let sound = subst (λ (h : Shape). Sound h (f .lo) (f .hi) ws) e (given-fits s bytes k given .0 .sound) in
+    subst (λ (z : ℤ). 2 * natAbs (z *ℤ pos (2 ^ (s * n)) -ℤ exactSum s (take (suc n) ws) n x) ≤ spreadSum s n x)
+    (sym (ap evaluationWord (answers-inside s bytes k given x l h) ∙ ap (λ (h : Shape). answerOf s h ws x) e))
+    (polynomial-distance s n q mode (f .lo) (f .hi) ws x sound)

@@ -1,20 +1,23 @@
--- Evaluation takes a whole sheet, a number and an argument: refusals 1 to 9, then 11, 13, 10.
-use mathlib.Core.Path.{_≡_}
-use mathlib.Core.Bool.{cond}
-use mathlib.Core.List.{List}
+-- Evaluation takes a whole sheet, a number and an argument: the reader's refusals, then 13, 10. The binary places are s.
+use mathlib.Core.Path.{_≡_, refl}
+use mathlib.Core.Bool.{false, cond}
+use mathlib.Core.List.{List, [], _∷_}
 use Prim.Native.Nat.{ℕ}
-use lib.IntN.{ℤ, pos}
-use lib.Ieee.{Float}
+use lib.IntN.{ℤ, pos, negsuc}
+use lib.Ieee.{Float, fin}
 use lib.Signed.{ltZ}
+use Rattle.word.specs.Rounded.{rounded}
+use Rattle.formula.specs.declared.Kind.the-variants.{Polynomial}
 use Rattle.formula.specs.declared.Formula.{Formula}
 use Rattle.formula.specs.Formula.{answerOf}
+use Rattle.polynomial.specs.Polynomial.{horner}
+use Rattle.layout.specs.Fields.{shape, padded, formula}
 use Rattle.door.specs.declared.answer.Taken.{Taken}
 use Rattle.door.specs.declared.answer.Taken.the-variants.{Word, NoWord, NotFinite}
 use Rattle.door.specs.Taken.{takenOf, refusalOf}
 use Rattle.door.specs.Exact.{Exactly}
-use Rattle.records.specs.Faults.{places}
 use Rattle.records.specs.Guard.{refusal}
-use Rattle.sheet.specs.Reader.{formulaRead}
+use Rattle.sheet.specs.Reader.{formulaRead, wordsIn}
 use Rattle.sheet.specs.declared.answers.Found.{Found}
 use Rattle.sheet.specs.declared.answers.Found.the-variants.{Given, Refused as Withheld}
 use Rattle.sheet.specs.declared.answers.Reading.{Reading}
@@ -25,18 +28,21 @@ use Rattle.board.specs.declared.answers.Shown.the-variants.{Value, Refus
 use Rattle.board.specs.declared.answers.Interval.{Interval}
 use Rattle.board.specs.declared.answers.Interval.the-variants.{Between, Refused as NoInterval}
 
--- ---- the paper's number, place and word of each case; 0 where there is none
-abbrev pub numberOf : Evaluation → ℕ
-numberOf (Answered w) = 0
-numberOf (Refused r) = r .number
+-- ---- the paper's number, place and values of each case; 0 where there is none
+abbrev zeroDouble : Float
+zeroDouble = fin false 0 (pos 0)
 
-abbrev pub placeOf : Evaluation → ℕ
-placeOf (Answered w) = 0
-placeOf (Refused r) = r .place
+abbrev pub evaluationNumber : Evaluation → ℕ
+evaluationNumber (Answered w) = 0
+evaluationNumber (Refused r) = r .number
 
-abbrev pub wordOf : Evaluation → ℤ
-wordOf (Answered w) = w .word
-wordOf (Refused r) = pos 0
+abbrev pub evaluationPlace : Evaluation → ℕ
+evaluationPlace (Answered w) = 0
+evaluationPlace (Refused r) = r .place
+
+abbrev pub evaluationWord : Evaluation → ℤ
+evaluationWord (Answered w) = w .word
+evaluationWord (Refused r) = pos 0
 
 abbrev pub shownNumber : Shown → ℕ
 shownNumber (Value x) = 0
@@ -46,6 +52,10 @@ abbrev pub shownPlace : Shown → ℕ
 shownPlace (Value x) = 0
 shownPlace (NotShown r) = r .place
 
+abbrev pub shownValue : Shown → Float
+shownValue (Value x) = x
+shownValue (NotShown r) = zeroDouble
+
 abbrev pub intervalNumber : Interval → ℕ
 intervalNumber (Between e) = 0
 intervalNumber (NoInterval r) = r .number
@@ -53,6 +63,14 @@ intervalNumber (NoInterval r) = r .number
 abbrev pub intervalPlace : Interval → ℕ
 intervalPlace (Between e) = 0
 intervalPlace (NoInterval r) = r .place
+
+abbrev pub intervalLow : Interval → Float
+intervalLow (Between e) = e .low
+intervalLow (NoInterval r) = zeroDouble
+
+abbrev pub intervalHigh : Interval → Float
+intervalHigh (Between e) = e .high
+intervalHigh (NoInterval r) = zeroDouble
 
 -- 10 to 13 give place 0
 abbrev pub refused : ℕ → Evaluation
@@ -62,45 +80,53 @@ abbrev pub answered : ℤ → Evaluation
 answered w = Answered (record { word = w })
 
 -- ---- on words. Argument outside lo..hi, both ends inside (10), else the kind's own answer
-unfoldable pub answerAt : Formula → ℤ → Evaluation
-answerAt f x =
+unfoldable pub answerAt : ℕ → Formula → ℤ → Evaluation
+answerAt s f x =
     cond (ltZ x (f .lo)) (refused 10)
     (cond (ltZ (f .hi) x) (refused 10)
-    (answered (answerOf places (f .shape) (f .words) x)))
+    (answered (answerOf s (f .shape) (wordsIn f) x)))
 
--- the reader's refusals (1 to 9, 11) come first
+-- the reader's refusals come first
 abbrev pub whenGiven : Found → Evaluation → Evaluation
 whenGiven Given e = e
 whenGiven (Withheld r) e = Refused r
 
-abbrev pub evaluated : List ℕ → ℕ → ℤ → Evaluation
-evaluated s n x = whenGiven (formulaRead s n .found) (answerAt (formulaRead s n .formula) x)
+abbrev pub evaluated : ℕ → List ℕ → ℕ → ℤ → Evaluation
+evaluated s bytes n x = whenGiven (formulaRead s bytes n .found) (answerAt s (formulaRead s bytes n .formula) x)
 
 -- ---- the door for doubles. Infinite or not a number (13); the rounded value is no word, or outside the interval (10)
-abbrev pub takenBy : Formula → Taken → Evaluation
-takenBy f (Word w) = answerAt f w
-takenBy f NoWord = refused (refusalOf NoWord)
-takenBy f NotFinite = refused (refusalOf NotFinite)
+abbrev pub takenBy : ℕ → Formula → Taken → Evaluation
+takenBy s f (Word w) = answerAt s f w
+takenBy s f NoWord = refused (refusalOf NoWord)
+takenBy s f NotFinite = refused (refusalOf NotFinite)
 
-abbrev pub takenAt : Formula → Float → Evaluation
-takenAt f x = takenBy f (takenOf places x)
+abbrev pub takenAt : ℕ → Formula → Float → Evaluation
+takenAt s f x = takenBy s f (takenOf s x)
 
-abbrev pub evaluatedDouble : List ℕ → ℕ → Float → Evaluation
-evaluatedDouble s n x = whenGiven (formulaRead s n .found) (takenAt (formulaRead s n .formula) x)
+abbrev pub evaluatedDouble : ℕ → List ℕ → ℕ → Float → Evaluation
+evaluatedDouble s bytes n x = whenGiven (formulaRead s bytes n .found) (takenAt s (formulaRead s bytes n .formula) x)
 
--- an answer as the door gives it: the double that is exactly the answer word divided by 2^24, or the same refusal
-abbrev pub ShownAs : Evaluation → Shown → Type 0
-ShownAs (Answered w) (Value x) = Exactly places (w .word) x
-ShownAs (Answered w) (NotShown r) = ⊥
-ShownAs (Refused q) (Value x) = ⊥
-ShownAs (Refused q) (NotShown r) = r ≡ q
+-- an answer as the door gives it: the double that is exactly the answer word divided by 2^s, or the same refusal
+abbrev pub ShownAs : ℕ → Evaluation → Shown → Type 0
+ShownAs s (Answered w) (Value x) = Exactly s (w .word) x
+ShownAs s (Answered w) (NotShown r) = ⊥
+ShownAs s (Refused q) (Value x) = ⊥
+ShownAs s (Refused q) (NotShown r) = r ≡ q
 
 -- ---- a formula's interval as two doubles, both exact; its refusals are the reader's
-abbrev pub IntervalBy : Found → Formula → Interval → Type 0
-IntervalBy Given f (Between e) = Exactly places (f .lo) (e .low) × Exactly places (f .hi) (e .high)
-IntervalBy Given f (NoInterval r) = ⊥
-IntervalBy (Withheld q) f (Between e) = ⊥
-IntervalBy (Withheld q) f (NoInterval r) = r ≡ q
+abbrev pub IntervalBy : ℕ → Found → Formula → Interval → Type 0
+IntervalBy s Given f (Between e) = Exactly s (f .lo) (e .low) × Exactly s (f .hi) (e .high)
+IntervalBy s Given f (NoInterval r) = ⊥
+IntervalBy s (Withheld q) f (Between e) = ⊥
+IntervalBy s (Withheld q) f (NoInterval r) = r ≡ q
 
-abbrev pub IntervalAs : Reading → Interval → Type 0
-IntervalAs r i = IntervalBy (r .found) (r .formula) i
+abbrev pub IntervalAs : ℕ → Reading → Interval → Type 0
+IntervalAs s r i = IntervalBy s (r .found) (r .formula) i
+
+-- ---- worked examples: the constant 3, over -1 step to 1 step: both ends, and one step outside each
+abbrev constant : Formula
+constant = formula 1 (shape Polynomial 1 0 0) (negsuc 0) (pos 1) (padded (pos 50331648 ∷ []))
+
+constant-ends : (answerAt 24 constant (negsuc 1) ≡ refused 10) × (answerAt 24 constant (negsuc 0) ≡ answered (pos 50331648)) × (answerAt 24 constant (pos 1) ≡ answered (pos 50331648)) × (answerAt 24 constant (pos 2) ≡ refused 10)
+unfolding answerAt horner rounded padded
+constant-ends = (refl, refl, refl, refl)

@@ -10,25 +10,26 @@ use Rattle.records.specs.Sheets.{SheetOf}
 use Rattle.walking.specs.Walking.{walkOf}
 use Rattle.walking.specs.declared.Walked.{Walked}
 use Rattle.walking.specs.declared.Walked.the-variants.{Whole}
+use Rattle.walking.proofs.Formulas.{placeIn}
 use Rattle.walking.proofs.WalkToShape.{shape}
-use Rattle.walking.proofs.ShapeToWalk.{placeIn, walked}
+use Rattle.walking.proofs.ShapeToWalk.{walked}
 use Rattle.sheet.specs.Reader.{countNumber, countValue, formulaCount, noNumber, countAnswer, Accepted}
 use Rattle.sheet.specs.declared.answers.FormulaCount.the-variants.{Count}
 use Rattle.sheet.proofs.OneToNine.{accepted}
 
-pub accepted-shape : (s : List ℕ) → Accepted s → SheetOf (countValue (formulaCount s)) s
+pub accepted-shape : (s : ℕ) (bytes : List ℕ) → Accepted s bytes → SheetOf s (countValue (formulaCount s bytes)) bytes
 unfolding formulaCount
-accepted-shape s e =
-    let a = accepted s e in
-    subst (λ (c : ℕ). SheetOf c s) (sym (ap (λ (r : Walked). countValue (countAnswer r)) (a .2))) (shape s (a .0) (a .1) noNumber (a .2))
+accepted-shape s bytes e =
+    let a = accepted s bytes e in
+    subst (λ (c : ℕ). SheetOf s c bytes) (sym (ap (λ (r : Walked). countValue (countAnswer r)) (a .2))) (shape s bytes (a .0) (a .1) noNumber (a .2))
 
 -- the place of any number in it is known too
-pub walk-of : (c : ℕ) (s : List ℕ) (h : SheetOf c s) (n : ℕ) → walkOf s n ≡ Whole c (placeIn n (length (h .start)) 0 (h .formulas))
-walk-of c s h n = rw (append-nil s, le-ltb (length s) (length s + 0) (omega arith)) at (walked c s [] h n)
+pub walk-of : (s c : ℕ) (bytes : List ℕ) (h : SheetOf s c bytes) (n : ℕ) → walkOf s bytes 0 n ≡ Whole c (placeIn n (length (h .start)) 0 (h .formulas))
+walk-of s c bytes h n = rw (append-nil bytes, le-ltb (length bytes) (length bytes + 0) (omega arith)) at (walked s c bytes [] h n)
 
-pub shape-count : (c : ℕ) (s : List ℕ) → SheetOf c s → formulaCount s ≡ Count c
+pub shape-count : (s c : ℕ) (bytes : List ℕ) → SheetOf s c bytes → formulaCount s bytes ≡ Count c
 unfolding formulaCount
-shape-count c s h = ap countAnswer (walk-of c s h noNumber)
+shape-count s c bytes h = ap countAnswer (walk-of s c bytes h noNumber)
 
-pub shape-accepted : (c : ℕ) (s : List ℕ) → SheetOf c s → Accepted s × (countValue (formulaCount s) ≡ c)
-shape-accepted c s h = (ap countNumber (shape-count c s h), ap countValue (shape-count c s h))
+pub shape-accepted : (s c : ℕ) (bytes : List ℕ) → SheetOf s c bytes → Accepted s bytes × (countValue (formulaCount s bytes) ≡ c)
+shape-accepted s c bytes h = (ap countNumber (shape-count s c bytes h), ap countValue (shape-count s c bytes h))

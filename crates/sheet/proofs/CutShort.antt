@@ -13,18 +13,18 @@ use Rattle.sheet.proofs.OneToNine.{one-to-nine}
 use Rattle.sheet.proofs.AcceptedShape.{accepted-shape}
 
 -- an accepted sheet with anything behind it is refused by 9, at the first byte too many
-pub too-long : (s after : List ℕ) → Accepted s → 0 < length after → (countNumber (formulaCount (s ++ after)) ≡ 9) × (countPlace (formulaCount (s ++ after)) ≡ length s)
+pub too-long : (s : ℕ) (bytes after : List ℕ) → Accepted s bytes → 0 < length after → (countNumber (formulaCount s (bytes ++ after)) ≡ 9) × (countPlace (formulaCount s (bytes ++ after)) ≡ length bytes)
 unfolding formulaCount
-too-long s after a h =
-    let e = rw (lt-ltb (length s) (length s + length after) (omega arith)) at (walked _ s after (accepted-shape s a) noNumber) in
+too-long s bytes after a h =
+    let e = rw (lt-ltb (length bytes) (length bytes + length after) (omega arith)) at (walked s _ bytes after (accepted-shape s bytes a) noNumber) in
     (ap (λ (r : Walked). countNumber (countAnswer r)) e, ap (λ (r : Walked). countPlace (countAnswer r)) e)
 
-pub cut-short : (s : List ℕ) (k : ℕ) → Accepted s → k < length s → NotAccepted (take k s)
-cut-short s k a h = at (one-to-nine (take k s))
+pub cut-short : (s : ℕ) (bytes : List ℕ) (k : ℕ) → Accepted s bytes → k < length bytes → NotAccepted s (take k bytes)
+cut-short s bytes k a h = at (one-to-nine s (take k bytes))
   where
-    at : Accepted (take k s) ⊎ NotAccepted (take k s) → NotAccepted (take k s)
+    at : Accepted s (take k bytes) ⊎ NotAccepted s (take k bytes) → NotAccepted s (take k bytes)
     at (inl b) =
-        let l = too-long (take k s) (drop k s) b (omega (arith, length-drop k s)) .0 in
-        let e : countNumber (formulaCount s) ≡ 9 = rw (take-append-drop k s) at l in
+        let l = too-long s (take k bytes) (drop k bytes) b (omega (arith, length-drop k bytes)) .0 in
+        let e : countNumber (formulaCount s bytes) ≡ 9 = rw (take-append-drop k bytes) at l in
         absurd (omega (arith, a, e))
     at (inr r) = r

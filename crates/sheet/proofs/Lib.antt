@@ -1,4 +1,5 @@
 -- Laws.
+pub mod Words
 pub mod Places
 -- Promises.
 pub mod OneToNine

@@ -196,20 +196,24 @@ end w place n = go (ltb place n)
     go true = one-of sheetRefusals 9 tt
     go false = tt
 
+past : (next : Walk → Walked) → ((v : Walk) → Numbered (next v)) → (k : Class) (b : List ℕ) (w : Walk) (n : ℕ) → Numbered (onward next k b w n)
+past next h StartRecord b w n = h _
+past next h FormulaRecord b w n = h _
+past next h EndRecord b w n = end w _ n
+past next h Unknown b w n = one-of sheetRefusals 3 tt
+
+done-or : (t : Bool) (w : Walk) (x : Walked) → Numbered x → Numbered (cond t (Whole (w .seen) (w .found)) x)
+done-or true w x h = tt
+done-or false w x h = h
+
 walks : (k s : ℕ) (bytes : List ℕ) (from : ℕ) (w : Walk) → Numbered (walkFrom k s bytes from w)
 unfolding walkFrom
 walks zero s bytes from w = one-of sheetRefusals 4 tt
-walks (suc k) s bytes from w = by (runDone bytes from w)
-  where
-    past : (c : Class) → Numbered (onward (walkFrom k s bytes from) c (recordHere bytes from w) w (length bytes))
-    past StartRecord = walks k s bytes from _
-    past FormulaRecord = walks k s bytes from _
-    past EndRecord = end w _ (length bytes)
-    past Unknown = one-of sheetRefusals 3 tt
-
-    by : (t : Bool) → Numbered (cond t (Whole (w .seen) (w .found)) (guard (faultAt s bytes from w) (λ n. Broken (refusal (w .at) n)) (onward (walkFrom k s bytes from) (rowFor (recordHere bytes from w) .class) (recordHere bytes from w) w (length bytes))))
-    by true = tt
-    by false = guarded (faultAt s bytes from w) (w .at) _ (whole s bytes from w) (past (rowFor (recordHere bytes from w) .class))
+walks (suc k) s bytes from w =
+    let b = recordHere bytes from w in
+    done-or (runDone bytes from w) w _
+    (guarded (faultAt s bytes from w) (w .at) _ (whole s bytes from w)
+    (past (walkFrom k s bytes from) (walks k s bytes from) (rowFor b .class) b w (length bytes)))
 
 numbered : (s : ℕ) (bytes : List ℕ) (from asked : ℕ) → Numbered (walkOf s bytes from asked)
 unfolding walkOf

@@ -13,14 +13,13 @@ use Rattle.table.specs.declared.Row.{Row}
 use Rattle.layout.specs.Fields.{rowFor}
 use Rattle.records.specs.Guard.{guard, refusal}
 use Rattle.records.specs.declared.Refusal.{Refusal}
-use Rattle.walking.specs.Walking.{walk, ending, classFault, recordFault, recordHere, faultAt, begin, onward, walkFrom, walkOf}
+use Rattle.walking.specs.Walking.{walk, ending, classFault, recordFault, recordHere, faultAt, afterStart, afterFormula, begin, onward, walkFrom, walkOf}
 use Rattle.walking.specs.declared.Walk.{Walk}
 use Rattle.walking.specs.declared.Walked.{Walked}
 use Rattle.walking.specs.declared.Walked.the-variants.{Whole, Broken}
 use Rattle.sheet.specs.declared.answers.Place.{Place}
 use Rattle.sheet.specs.declared.answers.Place.the-variants.{At as StandsAt, Refused as Absent}
 use Rattle.sheet.specs.Reader.{placeNumber, placePlace, foundNumber, foundPlace, countAnswer, noNumber, formulaCount, withheld, placeAnswer, formulaPlace, readAt, formulaRead}
-use Rattle.sheet.specs.declared.answers.FormulaCount.{FormulaCount}
 use Rattle.sheet.specs.declared.answers.FormulaCount.the-variants.{Refused}
 
 -- a walk that asks for nothing
@@ -54,20 +53,20 @@ guarded fault at x y e = go (eqb fault 0)
     go true = e
     go false = refl
 
+past : (next : Walk → Walked) → ((v : Walk) → countAnswer (next (plain v)) ≡ countAnswer (next v)) → (k : Class) (b : List ℕ) (w : Walk) (n : ℕ)
+    → countAnswer (onward next k b (plain w) n) ≡ countAnswer (onward next k b w n)
+past next h StartRecord b w n = sym (h (afterStart b (plain w))) ∙ h (afterStart b w)
+past next h FormulaRecord b w n = sym (h (afterFormula b (plain w))) ∙ h (afterFormula b w)
+past next h EndRecord b w n = at-end w (w .at + length b) n
+past next h Unknown b w n = refl
+
 walks : (k s : ℕ) (bytes : List ℕ) (w : Walk) → countAnswer (walkFrom k s bytes 0 (plain w)) ≡ countAnswer (walkFrom k s bytes 0 w)
 unfolding walkFrom
 walks zero s bytes w = refl
-walks (suc k) s bytes w = rw (fault-at s bytes w) (guarded (faultAt s bytes 0 w) (w .at) _ _ (past (walks k s bytes) (rowFor b .class)))
-  where
-    abbrev b : List ℕ
-    b = recordHere bytes 0 w
-
-    past : ((v : Walk) → countAnswer (walkFrom k s bytes 0 (plain v)) ≡ countAnswer (walkFrom k s bytes 0 v)) → (c : Class)
-        → countAnswer (onward (walkFrom k s bytes 0) c b (plain w) (length bytes)) ≡ countAnswer (onward (walkFrom k s bytes 0) c b w (length bytes))
-    past ih StartRecord = sym (ih _) ∙ ih _
-    past ih FormulaRecord = sym (ih _) ∙ ih _
-    past ih EndRecord = at-end w (w .at + length b) (length bytes)
-    past ih Unknown = refl
+walks (suc k) s bytes w =
+    let b = recordHere bytes 0 w in
+    rw (fault-at s bytes w)
+    (guarded (faultAt s bytes 0 w) (w .at) _ _ (past (walkFrom k s bytes 0) (walks k s bytes) (rowFor b .class) b w (length bytes)))
 
 pub same-walk : (s : ℕ) (bytes : List ℕ) (n : ℕ) → countAnswer (walkOf s bytes 0 n) ≡ formulaCount s bytes
 unfolding walkOf formulaCount

@@ -1,42 +1,42 @@
--- `board::interval` meets its contract.
+-- `board::interval` meets its contract: the ends of the record that stands at the place, or the place's refusal.
 use borrow.Author.Needs.{needs}
-use mathlib.Core.Path.{refl, sym, subst}
-use lib.IntN.{ℤ}
-use mir.Syntax.{w32}
-use mir.Val.{SFits}
-use Rattle.whole.proofs.Held.{held, arg}
-use Rattle.door.specs.Exact.{Exactly}
-use Rattle.records.specs.Faults.{places}
-use Rattle.sheet.specs.declared.answers.Found.{Found}
-use Rattle.sheet.specs.declared.answers.Reading.{Reading}
-use Rattle.board.specs.Board.{IntervalBy, IntervalAs}
-use Rattle.board.specs.declared.answers.Interval.the-variants.{Between, Refused}
+use mathlib.Core.Path.{_≡_, sym, _∙_}
+use denote.Ref.{now}
+use Rattle.sheet.specs.Reader.{formulaPlace, FormulaStands}
+use Rattle.sheet.specs.declared.answers.Place.the-variants.{At}
+use Rattle.sheet.proofs.Places.{place-standing}
+use Rattle.board.proofs.ReadingLaws.{ends-at, ends-refused}
 use Rattle.board.proofs.interval.Statement.{statement}
 use Rattle.board.proofs.interval.Tie as tie
 
-fits-low : (c : tie.After-struct-told) → SFits w32 (c .before .before .before .before .read-formula .result .formula .lo)
-fits-low c = search (needs, c .struct-told .given)
+-- the place that was answered, and what stands there
+module _ (c : tie.After-known-told) where
+  abbrev start : tie.Start
+  start = c .before .before .before .before .before
 
-fits-high : (c : tie.After-struct-told2) → SFits w32 (c .before .before .before .before .before .read-formula .result .formula .hi)
-fits-high c = search (needs, c .struct-told2 .given)
+  found : formulaPlace (start .args .places) (now (start .args .s)) (start .args .number) ≡ At (c .before .place .given .0 .0)
+  found = sym (c .before .before .before .formula-place .ensures) ∙ c .before .place .given .1
+
+  standing : FormulaStands (start .args .places) (now (start .args .s)) (c .before .place .given .0 .0)
+  standing = place-standing _ _ _ _ found
+
+record-at-requires : tie.Need-record-at-requires
+record-at-requires c κs = standing c .reach
+
+ends-of-requires : tie.Need-ends-of-requires
+ends-of-requires c κs = let t = standing (c .before) in (t .scale, rw (c .record-at .ensures) (t .here))
 
 returns : tie.Need-returns
 returns c =
-    let b = c .before .before .before .before .before .before in
-    let f = b .read-formula .result .formula in
-    let e = c .ends .result in
-    subst (λ (r : Reading). IntervalAs r (Between e)) (b .read-formula .ensures)
-    (subst (λ (a : Found). IntervalBy a f (Between e)) (sym (c .before .before .before .enum-told .given .1)) (
-      subst (λ (z : ℤ). Exactly places z (e .low)) (held (arg {w = w32} {x = f .lo} (fits-low (c .before .before)))) (c .ends .ensures .0),
-      subst (λ (z : ℤ). Exactly places z (e .high)) (held (arg {w = w32} {x = f .hi} (fits-high (c .before)))) (c .ends .ensures .1),
-    ))
+    let k = c .before .before in
+    let a = start k .args in
+    ends-at (a .places) (now (a .s)) (a .number) _ _ (found k) (rw (c .before .record-at .ensures) at (c .ends-of .ensures))
 
 returns-2 : tie.Need-returns-2
 returns-2 c =
-    let b = c .before .before .before .before in
-    let q = c .before .found .given .0 .0 in
-    subst (λ (r : Reading). IntervalAs r (Refused q)) (b .read-formula .ensures)
-    (subst (λ (a : Found). IntervalBy a (b .read-formula .result .formula) (Refused q)) (sym (c .before .found .given .1)) refl)
+    let p = c .before in
+    let a = p .before .before .before .before .args in
+    ends-refused (a .places) (now (a .s)) (a .number) _ (sym (p .before .before .formula-place .ensures) ∙ p .r .given .1)
 
 pub interval-spec : {M : Type 1} → statement M
 interval-spec =
@@ -44,7 +44,8 @@ interval-spec =
     (tie.spec
     (λ c κs. search needs)
     (λ c. search needs)
-    (λ c κs. search needs)
+    record-at-requires
+    ends-of-requires
     (λ c. search needs)
     returns
     returns-2)

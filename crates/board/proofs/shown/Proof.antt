@@ -1,4 +1,4 @@
--- `board::shown` meets its contract.
+-- `board::shown` meets its contract: the answer's word by the door, or the same refusal.
 use borrow.Author.Needs.{needs}
 use mathlib.Core.Path.{refl, sym, subst}
 use lib.IntN.{ℤ}
@@ -6,7 +6,6 @@ use mir.Syntax.{w32}
 use mir.Val.{SFits}
 use Rattle.whole.proofs.Held.{held, arg}
 use Rattle.door.specs.Exact.{Exactly}
-use Rattle.records.specs.Faults.{places}
 use Rattle.board.specs.Board.{ShownAs}
 use Rattle.board.specs.declared.answers.Evaluation.{Evaluation}
 use Rattle.board.specs.declared.answers.Shown.the-variants.{Value, Refused}
@@ -18,19 +17,16 @@ fits-word c = search (needs, c .struct-told .given)
 
 returns : tie.Need-returns
 returns c =
-    let e = c .before .before .before .e .given in
-    subst (λ (e : Evaluation). ShownAs e (Value (c .shown .result))) (sym (e .1))
-    (subst (λ (z : ℤ). Exactly places z (c .shown .result)) (held (arg {w = w32} {x = e .0 .0 .word} (fits-word (c .before)))) (c .shown .ensures))
+    let d = c .before .before .before in
+    let e = d .e .given in
+    let s = d .before .before .args .s in
+    subst (λ (e : Evaluation). ShownAs s e (Value (c .shown .result))) (sym (e .1))
+    (subst (λ (z : ℤ). Exactly s z (c .shown .result)) (held (arg {w = w32} {x = e .0 .0 .word} (fits-word (c .before)))) (c .shown .ensures))
 
 returns-2 : tie.Need-returns-2
-returns-2 c = subst (λ (e : Evaluation). ShownAs e (Refused (c .before .e2 .given .0 .0))) (sym (c .before .e2 .given .1)) refl
+returns-2 c =
+    let e = c .before .e2 .given in
+    subst (λ (x : Evaluation). ShownAs (c .before .before .before .args .s) x (Refused (e .0 .0))) (sym (e .1)) refl
 
 pub shown-spec : {M : Type 1} → statement M
-shown-spec =
-    tie.close
-    (tie.spec
-    (λ c. search needs)
-    (λ c κs. search needs)
-    (λ c. search needs)
-    returns
-    returns-2)
+shown-spec = tie.close (tie.spec (λ c. search needs) (λ c κs. search needs) (λ c. search needs) returns returns-2)

@@ -1,6 +1,8 @@
+-- `reader::formula_count` meets its contract: the answer is the walk's, case by case.
 use borrow.Author.Needs.{needs}
 use mathlib.Core.Path.{_∙_, sym, ap}
 use Rattle.sheet.specs.Reader.{countAnswer, formulaCount}
+use Rattle.sheet.proofs.Places.{from-first}
 use Rattle.sheet.proofs.reader.formula_count.Statement.{statement}
 use Rattle.sheet.proofs.reader.formula_count.Tie as tie
 
@@ -14,4 +16,4 @@ returns-2 c = ap countAnswer (sym (c .before .r .given .1) ∙ c .before .before
 
 pub formula-count-spec : {M : Type 1} → statement M
 formula-count-spec =
-    tie.close (tie.spec (λ c κs. search needs) (λ c. search needs) (λ c. search needs) returns returns-2)
+    tie.close (tie.spec (λ c κs. from-first _) (λ c. search needs) (λ c. search needs) returns returns-2)

@@ -1,7 +1,8 @@
+-- `reader::formula_place` meets its contract: the place that the walk has noted, 11 where it has noted none, or its refusal.
 use borrow.Author.Needs.{needs}
 use mathlib.Core.Path.{_∙_, sym, ap}
 use Rattle.sheet.specs.Reader.{placeFound, placeAnswer, formulaPlace}
-use Rattle.sheet.proofs.Places.{at-place}
+use Rattle.sheet.proofs.Places.{from-first, at-place}
 use Rattle.sheet.proofs.reader.formula_place.Statement.{statement}
 use Rattle.sheet.proofs.reader.formula_place.Tie as tie
 
@@ -24,4 +25,4 @@ returns-3 c = let f = c .before in ap placeAnswer (sym (f .r .given .1) ∙ f .b
 pub formula-place-spec : {M : Type 1} → statement M
 formula-place-spec =
     tie.close
-    (tie.spec (λ c κs. search needs) (λ c. search needs) returns (λ c. search needs) returns-2 returns-3)
+    (tie.spec (λ c κs. from-first _) (λ c. search needs) returns (λ c. search needs) returns-2 returns-3)

@@ -1,3 +1,4 @@
+-- `reader::no_formula` meets its contract: it is written out.
 use mathlib.Core.Path.{refl}
 use Rattle.layout.specs.Fields.{padded}
 use Rattle.sheet.specs.Reader.{noFormula}

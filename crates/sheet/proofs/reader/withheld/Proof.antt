@@ -1,3 +1,4 @@
+-- `reader::withheld` meets its contract: the refusal beside no formula.
 use borrow.Author.Needs.{needs}
 use mathlib.Core.Path.{ap}
 use Rattle.sheet.specs.Reader.{reading}

@@ -1,4 +1,4 @@
--- `board::taken_at` meets its contract.
+-- `board::taken_of` meets its contract: the answer at the word that the double is taken as, or the door's refusal.
 use borrow.Author.Needs.{needs}
 use mathlib.Core.Path.{sym, ap, _∙_}
 use denote.Ref.{now}
@@ -6,13 +6,13 @@ use mir.Syntax.{w32}
 use mir.Val.{SFits}
 use mir.Facts.{toZ-ofZ}
 use Rattle.formula.specs.declared.Formula.{Formula}
-use Rattle.sheet.specs.Reader.{formulaAt}
+use Rattle.layout.specs.Fields.{rowFor, formulaOf}
 use Rattle.board.specs.Board.{takenBy}
-use Rattle.board.proofs.taken_at.Statement.{statement}
-use Rattle.board.proofs.taken_at.Tie as tie
+use Rattle.board.proofs.taken_of.Statement.{statement}
+use Rattle.board.proofs.taken_of.Tie as tie
 
 abbrev f : tie.Start → Formula
-f d = formulaAt (now (d .args .s)) (d .args .place)
+f d = formulaOf (rowFor (now (d .args .b))) (now (d .args .b))
 
 fits-w : (c : tie.After-known-told) → SFits w32 (c .before .w .given .0 .0)
 fits-w c = search (needs, c .known-told .given)
@@ -20,20 +20,23 @@ fits-w c = search (needs, c .known-told .given)
 returns : tie.Need-returns
 returns c =
     let t = c .before .before .before .before in
-    rw (toZ-ofZ (fits-w (c .before))) at (c .answer-at .ensures) ∙ ap (takenBy (f (t .before .before))) (sym (c .before .before .w .given .1) ∙ t .taken .ensures)
+    let d = t .before .before in
+    rw (toZ-ofZ (fits-w (c .before))) at (c .answer-of .ensures) ∙ ap (takenBy (d .args .s) (f d)) (sym (c .before .before .w .given .1) ∙ t .taken .ensures)
 
 returns-2 : tie.Need-returns-2
 returns-2 c =
     let t = c .before .before .before in
-    c .refused .ensures ∙ ap (takenBy (f (t .before .before))) (sym (c .before .enum-told .given .1) ∙ t .taken .ensures)
+    let d = t .before .before in
+    c .refused .ensures ∙ ap (takenBy (d .args .s) (f d)) (sym (c .before .enum-told .given .1) ∙ t .taken .ensures)
 
 returns-3 : tie.Need-returns-3
 returns-3 c =
     let t = c .before .before .before in
-    c .refused2 .ensures ∙ ap (takenBy (f (t .before .before))) (sym (c .before .enum-told2 .given .1) ∙ t .taken .ensures)
+    let d = t .before .before in
+    c .refused2 .ensures ∙ ap (takenBy (d .args .s) (f d)) (sym (c .before .enum-told2 .given .1) ∙ t .taken .ensures)
 
-pub taken-at-spec : {M : Type 1} → statement M
-taken-at-spec =
+pub taken-of-spec : {M : Type 1} → statement M
+taken-of-spec =
     tie.close
     (tie.spec
     (λ c κs. search needs)
