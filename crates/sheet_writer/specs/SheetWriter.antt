@@ -66,7 +66,7 @@ unfolding startRow rows firstRow rowOf number2 number4 piecesBy words firstCount
 one-record = refl
 
 paper-sheet : sheetBytes 1 exampleRun ≡ 8 ∷ 0 ∷ 0 ∷ 0 ∷ 1 ∷ 0 ∷ 1 ∷ 0 ∷ (exampleRun ++ (8 ∷ 0 ∷ 0 ∷ 0 ∷ 0xff ∷ 0xff ∷ 1 ∷ 0 ∷ []))
-unfolding startRow endRow firstRow rows bytes2 bytes4 frontBytes framingBytes
+unfolding startRow endRow firstRow rows bytes2 bytes4 frontBytes
 paper-sheet = refl
 
 -- the shortest buffer that it fits, and one byte less
@@ -76,11 +76,11 @@ room-enough = (refl, refl)
 
 -- a start record in the run gives 3 at 8, an empty run 4 at 0, 15 places 6 at 0 before that
 start-in-run : runWalked 24 (framingBytes startRow 1) ≡ Broken (refusal 8 3)
-unfolding startRow rows firstRow rowOf bytes2 bytes4 frontBytes framingBytes number2 number4 frameFault bytesAt recordFault faultAt walkFrom walkOf
+unfolding startRow rows firstRow rowOf bytes2 bytes4 frontBytes number2 number4 frameFault bytesAt recordFault faultAt walkFrom walkOf
 start-in-run = refl
 
 end-in-run : runWalked 24 (framingBytes endRow 1) ≡ Broken (refusal 8 3)
-unfolding startRow endRow rows firstRow rowOf bytes2 bytes4 frontBytes framingBytes number2 number4 frameFault bytesAt recordFault faultAt walkFrom walkOf
+unfolding startRow endRow rows firstRow rowOf bytes2 bytes4 frontBytes number2 number4 frameFault bytesAt recordFault faultAt walkFrom walkOf
 end-in-run = refl
 
 first-of-all : (sheetWriting 24 [] 100 ≡ refusedBy 4) × (sheetWriting 15 [] 100 ≡ refusedBy 6)
