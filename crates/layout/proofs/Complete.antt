@@ -27,7 +27,7 @@ module _ (r : Row) (b : List ℕ) (u : Ruled r) (c : r .class ≡ FormulaRecord)
   words-many = u .many c (shapeOf r b .p) (shapeOf r b .q)
 
   -- the words end where the record does
-  exactly : r .head + 4 * wordCount (shapeOf r b .kind) (shapeOf r b .p) (shapeOf r b .q) ≡ length b
+  pub exactly : r .head + 4 * wordCount (shapeOf r b .kind) (shapeOf r b .p) (shapeOf r b .q) ≡ length b
   exactly = rw (words-many, ← u .words c) (l .exact)
 
   pub reach : Stored (shapeOf r b) b (r .head)

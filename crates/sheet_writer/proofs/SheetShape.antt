@@ -24,15 +24,15 @@ use Rattle.record_writer.specs.declared.answers.Writing.the-variants.{Written}
 use Rattle.sheet_writer.specs.SheetWriter.{added, runWalked, sheetBytes, sheetWriting}
 use Rattle.sheet_writer.proofs.SheetLaws.{start-head}
 
-start-record : (c : ℕ) → RecordOf StartRecord (framingBytes startRow c)
+pub start-record : (c : ℕ) → RecordOf StartRecord (framingBytes startRow c)
 unfolding startRow frontBytes bytes2 bytes4 number2 number4 rows firstRow rowOf firstCount fieldOf shapeOf piecesBy outside countFault lengthFault sizeFault
 start-record c = record { least = omega arith; most = omega arith; says = refl; class = refl; exact = refl }
 
-end-record : (c : ℕ) → RecordOf EndRecord (framingBytes endRow c)
+pub end-record : (c : ℕ) → RecordOf EndRecord (framingBytes endRow c)
 unfolding endRow frontBytes bytes2 bytes4 number2 number4 rows firstRow rowOf firstCount fieldOf shapeOf piecesBy outside countFault lengthFault sizeFault
 end-record c = record { least = omega arith; most = omega arith; says = refl; class = refl; exact = refl }
 
-count-back : (r : Row) (c : ℕ) → c < 65536 → countOf (framingBytes r c) ≡ c
+pub count-back : (r : Row) (c : ℕ) → c < 65536 → countOf (framingBytes r c) ≡ c
 count-back r c h = rw (append-nil (framingBytes r c)) at (number-back (r .head) (r .code) c [] h)
 
 unfoldable pub sheet-shape : (s c : ℕ) (run : List ℕ) → Scale s → 1 ≤ c → RunOf s c run → SheetOf s c (sheetBytes c run)
@@ -55,7 +55,7 @@ sheet-shape s c run k m r =
 pub run-is-whole : (s c : ℕ) (run : List ℕ) → RunOf s c run → (k : ℕ) × (runWalked s run ≡ Whole c k)
 run-is-whole s c run r = rw start-head (_, run-walked s c run r 7 65536)
 
-no-scale-fault : (s : ℕ) → Scale s → scaleFault s ≡ 0
+pub no-scale-fault : (s : ℕ) → Scale s → scaleFault s ≡ 0
 unfolding scaleFault
 no-scale-fault s k = rw (le-ltb s 16 (k .least), le-ltb 28 s (k .most)) refl
 
