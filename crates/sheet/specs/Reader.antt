@@ -77,9 +77,6 @@ abbrev pub NotAccepted : ℕ → List ℕ → Type 0
 NotAccepted s bytes = OneOf sheetRefusals (countNumber (formulaCount s bytes))
 
 -- ---- where the formula of a number stands: a sheet's refusals, then 11. 0 is the start's place, so no formula's
-abbrev pub readerRefusals : List ℕ
-readerRefusals = 11 ∷ sheetRefusals
-
 abbrev pub placeFound : ℕ → Place
 placeFound zero = Absent (refusal 0 11)
 placeFound (suc k) = At (suc k)
