@@ -21,13 +21,13 @@ use Rattle.board.specs.Board.{evaluationNumber, evaluationPlace, refused
 use Rattle.board.specs.declared.answers.Evaluation.{Evaluation}
 use Rattle.board.proofs.IntervalLaws.{below-low, above-high, inside, answerable}
 
-abbrev pub formulaIn : ℕ → List ℕ → ℕ → Formula
-formulaIn s bytes n = formulaRead s bytes n .formula
+abbrev pub formulaGiven : ℕ → List ℕ → ℕ → Formula
+formulaGiven s bytes n = formulaRead s bytes n .formula
 
 -- the formula n of an accepted sheet that has it
 module _ (s : ℕ) (bytes : List ℕ) (n : ℕ) (given : HasFormula s bytes n) where
   abbrev f : Formula
-  f = formulaIn s bytes n
+  f = formulaGiven s bytes n
 
   -- the board's answer is then the formula's
   by-formula : (e : Evaluation) → whenGiven (formulaRead s bytes n .found) e ≡ e

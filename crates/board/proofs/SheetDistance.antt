@@ -13,12 +13,12 @@ use Rattle.formula.specs.Formula.{Sound, answerOf}
 use Rattle.sheet.specs.Reader.{wordsIn, HasFormula}
 use Rattle.sheet.proofs.FormulasGiven.{given-fits}
 use Rattle.board.specs.Board.{evaluationWord, evaluated}
-use Rattle.board.proofs.AnswersInside.{formulaIn, answers-inside}
+use Rattle.board.proofs.AnswersInside.{formulaGiven, answers-inside}
 
-pub sheet-distance : (s : ℕ) (bytes : List ℕ) (k : ℕ) → HasFormula s bytes k → (n q mode : ℕ) → formulaIn s bytes k .shape ≡ polynomialShape n q mode → (x : ℤ) → formulaIn s bytes k .lo ≤ℤ x → x ≤ℤ formulaIn s bytes k .hi
-    → 2 * natAbs (evaluationWord (evaluated s bytes k x) *ℤ pos (2 ^ (s * n)) -ℤ exactSum s (take (suc n) (wordsIn (formulaIn s bytes k))) n x) ≤ spreadSum s n x
+pub sheet-distance : (s : ℕ) (bytes : List ℕ) (k : ℕ) → HasFormula s bytes k → (n q mode : ℕ) → formulaGiven s bytes k .shape ≡ polynomialShape n q mode → (x : ℤ) → formulaGiven s bytes k .lo ≤ℤ x → x ≤ℤ formulaGiven s bytes k .hi
+    → 2 * natAbs (evaluationWord (evaluated s bytes k x) *ℤ pos (2 ^ (s * n)) -ℤ exactSum s (take (suc n) (wordsIn (formulaGiven s bytes k))) n x) ≤ spreadSum s n x
 sheet-distance s bytes k given n q mode e x l h =
-    let f = formulaIn s bytes k in
+    let f = formulaGiven s bytes k in
     let ws = wordsIn f in
     let sound = subst (λ (h : Shape). Sound h (f .lo) (f .hi) ws) e (given-fits s bytes k given .0 .sound) in
     subst (λ (z : ℤ). 2 * natAbs (z *ℤ pos (2 ^ (s * n)) -ℤ exactSum s (take (suc n) ws) n x) ≤ spreadSum s n x)

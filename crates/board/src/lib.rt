@@ -3,9 +3,9 @@ ghost use mathlib.Core.Path.{_≡_};
 ghost use Rattle.word.specs.Words.{Scale};
 ghost use Rattle.formula.specs.Formula.{answerOf, Answerable};
 ghost use Rattle.table.specs.declared.Class.the-variants.{FormulaRecord};
-ghost use Rattle.layout.specs.Fields.{rowFor, shapeOf, wordsOf, formulaOf};
+ghost use Rattle.layout.specs.Fields.{rowFor, shapeOf, wordsOf};
 ghost use Rattle.records.specs.Sheets.{RecordOf, FormulaBytes};
-ghost use Rattle.sheet.specs.Reader.{formulaRead};
+ghost use Rattle.sheet.specs.Reader.{formulaIn, formulaRead};
 ghost use Rattle.sheet.specs.declared.answers.Found.the-variants.{Given};
 ghost use Rattle.board.specs.Board.{refused, answerAt, evaluated, takenAt, evaluatedDouble, ShownAs, IntervalBy, IntervalAs};
 
@@ -38,7 +38,7 @@ fn word_at(b: &[u8], x: i32, s: u32) -> i32
 // The formula's answer where x lies in its interval, both ends inside.
 fn answer_of(b: &[u8], x: i32, s: u32) -> Evaluation
     requires { ⌜ Scale s × FormulaBytes s (now b) ⌝ }
-    ensures { λ r. ⌜ r ≡ answerAt s (formulaOf (rowFor (now (b .entry))) (now (b .entry))) x ⌝ }
+    ensures { λ r. ⌜ r ≡ answerAt s (formulaIn (now (b .entry))) x ⌝ }
 {
     if x < fields::lo(b) {
         return refused(10);
@@ -62,7 +62,7 @@ pub fn evaluate(s: &[u8], number: u16, x: i32, places: u32) -> Evaluation
 // A double as the argument: 13 comes before 10.
 fn taken_of(b: &[u8], x: f64, s: u32) -> Evaluation
     requires { ⌜ Scale s × FormulaBytes s (now b) ⌝ }
-    ensures { λ r. ⌜ r ≡ takenAt s (formulaOf (rowFor (now (b .entry))) (now (b .entry))) x ⌝ }
+    ensures { λ r. ⌜ r ≡ takenAt s (formulaIn (now (b .entry))) x ⌝ }
 {
     match door::taken(x, s) {
         Taken::Word(w) => answer_of(b, w, s),
@@ -92,9 +92,11 @@ pub fn evaluate_double(s: &[u8], number: u16, x: f64, places: u32) -> Shown
 
 fn ends_of(b: &[u8], s: u32) -> Interval
     requires { ⌜ Scale s × FormulaBytes s (now b) ⌝ }
-    ensures { λ r. ⌜ IntervalBy s Given (formulaOf (rowFor (now (b .entry))) (now (b .entry))) r ⌝ }
+    ensures { λ r. ⌜ IntervalBy s Given (formulaIn (now (b .entry))) r ⌝ }
 {
-    Interval::Between(door::ends(fields::lo(b), fields::hi(b), s))
+    let lo = fields::lo(b);
+    let hi = fields::hi(b);
+    Interval::Between(door::ends(lo, hi, s))
 }
 
 pub fn interval(s: &[u8], number: u16, places: u32) -> Interval

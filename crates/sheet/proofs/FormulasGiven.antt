@@ -7,12 +7,12 @@ use Prim.Native.Nat.{ℕ}
 use native.Mathlib.Omega.{arith}
 use lib.ListN.{length}
 use Rattle.word.specs.Words.{Scale}
-use Rattle.layout.specs.Fields.{rowFor, formulaNumber, formulaOf}
+use Rattle.layout.specs.Fields.{formulaNumber, formulaOf}
 use Rattle.records.specs.Guard.{refusal}
 use Rattle.records.specs.Sheets.{FormulaBytes, Has, SheetOf}
 use Rattle.walking.specs.declared.Walked.{Walked}
 use Rattle.walking.proofs.Formulas.{placeIn}
-use Rattle.sheet.specs.Reader.{countNumber, formulaCount, foundNumber, foundPlace, reading, withheld, placeFound, placeAnswer, formulaPlace, readAt, formulaRead, Accepted, HasFormula, Fit}
+use Rattle.sheet.specs.Reader.{countNumber, formulaCount, foundNumber, foundPlace, reading, withheld, placeFound, placeAnswer, formulaPlace, formulaIn, readAt, formulaRead, Accepted, HasFormula, Fit}
 use Rattle.sheet.specs.declared.answers.FormulaCount.{FormulaCount}
 use Rattle.sheet.specs.declared.answers.FormulaCount.the-variants.{Count, Refused}
 use Rattle.sheet.specs.declared.answers.Found.the-variants.{Given}
@@ -29,8 +29,8 @@ pub record Gives (s : ℕ) (bytes : List ℕ) (n : ℕ) (fs : List (List ℕ)) :
   pub record-bytes : List ℕ
   pub there : Has n fs
   pub number : formulaNumber record-bytes ≡ n
-  pub answer : formulaRead s bytes n ≡ reading Given (formulaOf (rowFor record-bytes) record-bytes)
-  pub fits : Fit s (formulaOf (rowFor record-bytes) record-bytes)
+  pub answer : formulaRead s bytes n ≡ reading Given (formulaIn record-bytes)
+  pub fits : Fit s (formulaIn record-bytes)
 
 -- none of the records has it, and the answer is 11
 abbrev pub Lacks : ℕ → List ℕ → ℕ → List (List ℕ) → Type 0
@@ -54,7 +54,7 @@ module _ (s c : ℕ) (bytes : List ℕ) (h : SheetOf s c bytes) (n : ℕ) where
         record-bytes = b;
         there = has n _ _ (h .formulas) a;
         number = a .number;
-        answer = answer-is ∙ given bytes place (λ z. omega (arith, a .place, z, h .opens .0 .least)) ∙ ap (λ (x : List ℕ). reading Given (formulaOf (rowFor x) x)) e;
+        answer = answer-is ∙ given bytes place (λ z. omega (arith, a .place, z, h .opens .0 .least)) ∙ ap (λ (x : List ℕ). reading Given (formulaIn x)) e;
         fits = fit s b f;
       }
 

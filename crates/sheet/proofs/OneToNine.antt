@@ -1,6 +1,6 @@
--- Promise: any bytes are accepted, or refused by one of a sheet's refusals; a number asked for is refused by these or by 11.
+-- Promise: any bytes are accepted, or refused by one of a sheet's refusals; a number asked for is refused by these, or by 11 at place 0.
 -- Each test of a record gives 0 or one of a record's refusals, and so do tests one behind the other: that is shown once, by small laws of `cond` and `orElse`.
-use mathlib.Core.Path.{_≡_, refl, subst}
+use mathlib.Core.Path.{_≡_, refl, ap, subst}
 use mathlib.Core.List.{List, [], _∷_}
 use mathlib.Core.Logic.{_⊎_, inl, inr}
 use mathlib.Core.Bool.{Bool, true, false, cond, not, _||_}
@@ -31,7 +31,9 @@ use Rattle.walking.specs.Walking.{placeFault, classFault, recordFault, recordHe
 use Rattle.walking.specs.declared.Walk.{Walk}
 use Rattle.walking.specs.declared.Walked.{Walked}
 use Rattle.walking.specs.declared.Walked.the-variants.{Whole, Broken}
-use Rattle.sheet.specs.Reader.{countNumber, formulaCount, noNumber, countAnswer, placeNumber, placeAnswer, formulaPlace, readerRefusals, Accepted, NotAccepted}
+use Rattle.sheet.specs.Reader.{countNumber, formulaCount, noNumber, countAnswer, placeNumber, placeAnswer, formulaPlace, foundNumber, withheld, readAt, formulaRead, Accepted, NotAccepted}
+use Rattle.sheet.specs.declared.answers.Place.{Place}
+use Rattle.sheet.specs.declared.answers.Place.the-variants.{At as StandsAt, Refused as Absent}
 
 -- ---- a list of numbers, by tests that are computed
 
@@ -238,13 +240,22 @@ accepted s bytes e = at (walkOf s bytes 0 noNumber) refl (numbered s bytes 0 noN
     at (Whole c k) q h p = (c, k, q)
     at (Broken r) q h p = absurd (not-zero sheetRefusals (r .number) tt h p)
 
--- ---- the formula, and its place
+-- ---- the place of a formula, and the formula
 
-pub or-eleven : (s : ℕ) (bytes : List ℕ) (n : ℕ) → (placeNumber (formulaPlace s bytes n) ≡ 0) ⊎ OneOf readerRefusals (placeNumber (formulaPlace s bytes n))
+pub or-eleven : (s : ℕ) (bytes : List ℕ) (n : ℕ) → OneOf (0 ∷ sheetRefusals) (placeNumber (formulaPlace s bytes n)) ⊎ (formulaPlace s bytes n ≡ Absent (refusal 0 11))
 unfolding formulaPlace
 or-eleven s bytes n = at (walkOf s bytes 0 n) (numbered s bytes 0 n)
   where
-    at : (r : Walked) → Numbered r → (placeNumber (placeAnswer r) ≡ 0) ⊎ OneOf readerRefusals (placeNumber (placeAnswer r))
-    at (Whole c zero) h = inr (inl refl)
-    at (Whole c (suc k)) h = inl refl
-    at (Broken r) h = inr (inr h)
+    at : (r : Walked) → Numbered r → OneOf (0 ∷ sheetRefusals) (placeNumber (placeAnswer r)) ⊎ (placeAnswer r ≡ Absent (refusal 0 11))
+    at (Whole c zero) h = inr refl
+    at (Whole c (suc k)) h = inl (inl refl)
+    at (Broken r) h = inl (inr h)
+
+pub read-or-eleven : (s : ℕ) (bytes : List ℕ) (n : ℕ) → OneOf (0 ∷ sheetRefusals) (foundNumber (formulaRead s bytes n .found)) ⊎ (formulaRead s bytes n ≡ withheld (refusal 0 11))
+unfolding formulaRead
+read-or-eleven s bytes n = at (formulaPlace s bytes n) (or-eleven s bytes n)
+  where
+    at : (p : Place) → OneOf (0 ∷ sheetRefusals) (placeNumber p) ⊎ (p ≡ Absent (refusal 0 11)) → OneOf (0 ∷ sheetRefusals) (foundNumber (readAt bytes p .found)) ⊎ (readAt bytes p ≡ withheld (refusal 0 11))
+    at (StandsAt k) h = inl (inl refl)
+    at (Absent r) (inl h) = inl h
+    at (Absent r) (inr e) = inr (ap (readAt bytes) e)

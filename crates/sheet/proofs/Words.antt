@@ -16,7 +16,7 @@ use Rattle.layout.proofs.Padded.{take-padded}
 use Rattle.records.specs.Sheets.{RecordOf, FormulaBytes}
 use Rattle.records.proofs.Lengths.{laid}
 use Rattle.records.proofs.Soundness.{admitted, sound-record}
-use Rattle.sheet.specs.Reader.{wordsIn, Fit}
+use Rattle.sheet.specs.Reader.{formulaIn, wordsIn, Fit}
 
 pub complete-record : (b : List ℕ) → RecordOf FormulaRecord b → Complete (rowFor b) b
 complete-record b r = complete (rowFor b) b (ruled (codeOf b)) (r .class) (r .most) (laid (rowFor b) b (r .exact))
@@ -28,7 +28,7 @@ words-in r b =
     let ws = wordsOf r b in
     subst (λ (n : ℕ). take n (padded ws) ≡ ws) (length-words b (r .head) (wordCount (shapeOf r b .kind) (shapeOf r b .p) (shapeOf r b .q))) (take-padded ws)
 
-pub fit : (s : ℕ) (b : List ℕ) → FormulaBytes s b → Fit s (formulaOf (rowFor b) b)
+pub fit : (s : ℕ) (b : List ℕ) → FormulaBytes s b → Fit s (formulaIn b)
 unfolding formulaOf
 fit s b f =
     let r = rowFor b in

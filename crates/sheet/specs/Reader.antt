@@ -6,18 +6,19 @@ use lib.ListN.{take, replicate}
 use lib.IntN.{ℤ, pos, negsuc}
 use Rattle.word.specs.Words.{Scale}
 use Rattle.stored.specs.Numbers.{number2, number4}
+use Rattle.stored.specs.Words.{words}
 use Rattle.admission.specs.declared.Admission.the-variants.{Admitted}
 use Rattle.formula.specs.declared.Kind.the-variants.{Polynomial, NoFormula}
 use Rattle.formula.specs.declared.Formula.{Formula}
 use Rattle.formula.specs.Formula.{wordCount, Sound, admissionOf}
 use Rattle.table.specs.Table.{rows, firstRow, rowOf, piecesBy}
 use Rattle.layout.specs.Fields.{bytesAt, Reaches, rowFor, firstCount, fieldOf, shape, shapeOf, padded, formula, formulaOf}
-use Rattle.records.specs.Faults.{frameFault, outside, countFault, sizeFault, lengthFault, startFault, scaleFault}
+use Rattle.records.specs.Faults.{frameFault, outside, countFault, sizeFault, lengthFault, startFault, scaleFault, orderFault, endFault, valueFault, ownFault, intervalFault, wordsFault}
 use Rattle.records.specs.Guard.{refusal}
 use Rattle.records.specs.Refusals.{OneOf, sheetRefusals}
 use Rattle.records.specs.Sheets.{FormulaBytes}
 use Rattle.records.specs.declared.Refusal.{Refusal}
-use Rattle.walking.specs.Walking.{recordFault, faultAt, walkFrom, walkOf}
+use Rattle.walking.specs.Walking.{recordFault, faultAt, foundBy, ending, walkFrom, walkOf}
 use Rattle.walking.specs.declared.Walked.{Walked}
 use Rattle.walking.specs.declared.Walked.the-variants.{Whole, Broken}
 use Rattle.sheet.specs.declared.answers.FormulaCount.{FormulaCount}
@@ -76,9 +77,6 @@ abbrev pub NotAccepted : ℕ → List ℕ → Type 0
 NotAccepted s bytes = OneOf sheetRefusals (countNumber (formulaCount s bytes))
 
 -- ---- where the formula of a number stands: a sheet's refusals, then 11. 0 is the start's place, so no formula's
-abbrev pub readerRefusals : List ℕ
-readerRefusals = 11 ∷ sheetRefusals
-
 abbrev pub placeFound : ℕ → Place
 placeFound zero = Absent (refusal 0 11)
 placeFound (suc k) = At (suc k)
@@ -100,8 +98,12 @@ reading a f = record { found = a; formula = f }
 abbrev pub withheld : Refusal → Reading
 withheld r = reading (Withheld r) noFormula
 
+-- the formula of a record, by the row of its kind
+abbrev pub formulaIn : List ℕ → Formula
+formulaIn b = formulaOf (rowFor b) b
+
 abbrev pub formulaAt : List ℕ → ℕ → Formula
-formulaAt bytes place = formulaOf (rowFor (bytesAt bytes place)) (bytesAt bytes place)
+formulaAt bytes place = formulaIn (bytesAt bytes place)
 
 abbrev pub readAt : List ℕ → Place → Reading
 readAt bytes (At k) = reading Given (formulaAt bytes k)
@@ -144,6 +146,17 @@ refusals = (refl, refl, refl, refl)
 by-scale : (formulaCount 15 startOnly ≡ Refused (refusal 0 6)) × (formulaCount 16 startOnly ≡ Refused (refusal 8 1)) × (formulaCount 28 startOnly ≡ Refused (refusal 8 1)) × (formulaCount 29 startOnly ≡ Refused (refusal 0 6))
 unfolding formulaCount walkOf walkFrom faultAt frameFault bytesAt recordFault lengthFault sizeFault countFault outside startFault scaleFault number2 number4 rows firstRow rowOf firstCount fieldOf shapeOf piecesBy
 by-scale = (refl, refl, refl, refl)
+
+-- a sheet of one root, numbered 5, over 0 to 1 step: its count, its formula's place, and a number that it has not
+abbrev oneRoot : List ℕ
+oneRoot =
+    8 ∷ 0 ∷ 0 ∷ 0 ∷ 1 ∷ 0 ∷ 1 ∷ 0
+    ∷ 16 ∷ 0 ∷ 0 ∷ 0 ∷ 19 ∷ 0 ∷ 5 ∷ 0 ∷ 0 ∷ 0 ∷ 0 ∷ 0 ∷ 1 ∷ 0 ∷ 0 ∷ 0
+    ∷ 8 ∷ 0 ∷ 0 ∷ 0 ∷ 255 ∷ 255 ∷ 1 ∷ 0 ∷ []
+
+one-root : (formulaCount 24 oneRoot ≡ Count 1) × (formulaPlace 24 oneRoot 5 ≡ At 8) × (formulaPlace 24 oneRoot 6 ≡ Absent (refusal 0 11))
+unfolding formulaCount formulaPlace walkOf walkFrom faultAt foundBy ending frameFault bytesAt recordFault lengthFault sizeFault countFault outside startFault scaleFault orderFault endFault valueFault ownFault intervalFault wordsFault number2 number4 words rows firstRow rowOf firstCount fieldOf shapeOf piecesBy
+one-root = (refl, refl, refl)
 
 -- a polynomial of two coefficients has two words
 two-words : wordsIn (formula 1 (shape Polynomial 2 0 0) (pos 0) (pos 5) (padded (negsuc 3 ∷ pos 0 ∷ []))) ≡ negsuc 3 ∷ pos 0 ∷ []

@@ -1,9 +1,8 @@
 // The reader: a sheet's formula count, and the whole decoded formula of a number. One pass over the sheet each.
 ghost use mathlib.Core.Path.{_≡_};
 ghost use Rattle.table.specs.declared.Class.the-variants.{FormulaRecord};
-ghost use Rattle.layout.specs.Fields.{rowFor, formulaOf};
 ghost use Rattle.records.specs.Sheets.{RecordOf};
-ghost use Rattle.sheet.specs.Reader.{formulaCount, formulaPlace, noFormula, withheld, formulaRead};
+ghost use Rattle.sheet.specs.Reader.{formulaCount, formulaPlace, noFormula, withheld, formulaIn, formulaRead};
 use crate::answers::FormulaCount;
 use crate::answers::Found;
 use crate::answers::Place;
@@ -73,7 +72,7 @@ fn withheld(r: Refusal) -> Reading
 
 fn formula_in(b: &[u8]) -> Formula
     requires { ⌜ RecordOf FormulaRecord (now b) ⌝ }
-    ensures { λ r. ⌜ r ≡ formulaOf (rowFor (now (b .entry))) (now (b .entry)) ⌝ }
+    ensures { λ r. ⌜ r ≡ formulaIn (now (b .entry)) ⌝ }
 {
     fields::formula_of(b, table::row_of(fields::code(b)))
 }

@@ -13,7 +13,7 @@ use Rattle.whole.proofs.Held.{Held, held, arg, known, given, tested-lt, tested-
 use Rattle.formula.specs.declared.Formula.{Formula}
 use Rattle.formula.specs.Formula.{answerOf, Answerable}
 use Rattle.layout.specs.Fields.{rowFor, shapeOf, formulaOf}
-use Rattle.sheet.specs.Reader.{Fit}
+use Rattle.sheet.specs.Reader.{formulaIn, Fit}
 use Rattle.sheet.proofs.Words.{complete-record, words-in, fit}
 use Rattle.board.specs.Board.{answered}
 use Rattle.board.proofs.IntervalLaws.{below-low, above-high, inside, answerable}
@@ -25,7 +25,7 @@ module _ (d : tie.Start) where
   b = now (d .args .b)
 
   abbrev f : Formula
-  f = formulaOf (rowFor b) b
+  f = formulaIn b
 
   fits : Fit (d .args .s) f
   fits = fit (d .args .s) b (d .pre .1)

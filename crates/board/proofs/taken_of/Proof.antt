@@ -6,13 +6,13 @@ use mir.Syntax.{w32}
 use mir.Val.{SFits}
 use mir.Facts.{toZ-ofZ}
 use Rattle.formula.specs.declared.Formula.{Formula}
-use Rattle.layout.specs.Fields.{rowFor, formulaOf}
+use Rattle.sheet.specs.Reader.{formulaIn}
 use Rattle.board.specs.Board.{takenBy}
 use Rattle.board.proofs.taken_of.Statement.{statement}
 use Rattle.board.proofs.taken_of.Tie as tie
 
 abbrev f : tie.Start → Formula
-f d = formulaOf (rowFor (now (d .args .b))) (now (d .args .b))
+f d = formulaIn (now (d .args .b))
 
 fits-w : (c : tie.After-known-told) → SFits w32 (c .before .w .given .0 .0)
 fits-w c = search (needs, c .known-told .given)
