@@ -1,4 +1,3 @@
 -- Laws, lowest first.
+pub mod RecordFaults
 pub mod RecordWriting
-pub mod Accepted
-pub mod Settled

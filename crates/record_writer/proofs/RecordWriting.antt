@@ -1,56 +1,69 @@
--- The record writer's faults, a link at a time.
-use mathlib.Core.Path.{_≡_, refl, sym}
+-- The record writer's answers, a link at a time.
+use mathlib.Core.Path.{_≡_, _∙_, refl, sym, ap, ap₂}
 use mathlib.Core.Bool.{Bool, true, false, cond}
 use Prim.Native.Nat.{ℕ, _≤_}
 use native.Mathlib.Omega.{arith}
 use lib.Dec.{ltb, eqb}
-use borrow.Author.Tests.{ltb-false}
+use lib.ListN.{length}
+use Rattle.word.specs.Words.{Scale}
 use Rattle.formula.specs.declared.Formula.{Formula}
+use Rattle.table.specs.declared.Class.the-variants.{FormulaRecord}
 use Rattle.table.specs.declared.Row.{Row}
 use Rattle.table.specs.Table.{lengthBy}
-use Rattle.table.proofs.Rule.{ruled}
+use Rattle.layout.specs.Plain.{Handed, wordsIn, plainShape, plainBy, rowBy, plain}
+use Rattle.layout.specs.Bytes.{Ready}
+use Rattle.layout.proofs.RecordLaws.{length-record}
+use Rattle.layout.proofs.RecordBack.{Tidy}
+use Rattle.layout.proofs.HandedLaws as handed
 use Rattle.records.specs.Guard.{guard}
-use Rattle.records.specs.Faults.{innerFault}
-use Rattle.records.proofs.Chain.{passed, neither}
+use Rattle.records.specs.Faults.{countFault, valueFault, scaleFault, onlyFormula}
 use Rattle.records.proofs.Lengths.{counted}
-use Rattle.record_bytes.specs.Kinds.{codeFor, onlyFormula, plainShape, plainBy, rowBy, plain}
-use Rattle.record_bytes.specs.Bytes.{Ready}
-use Rattle.record_bytes.proofs.KindLaws.{kind-of-row, formula-only, ordered}
 use Rattle.record_writer.specs.Answers.{writingPlace, refusedBy}
+use Rattle.record_writer.specs.RecordWriter.{roomWriting, plainWriting, recordWriting, judgedWriting, bytesOf}
+use Rattle.record_writer.specs.declared.answers.Writing.{Writing}
 use Rattle.record_writer.specs.declared.answers.Writing.the-variants.{Written}
-use Rattle.record_writer.specs.RecordWriter.{kindAndCounts, valuesAndRoom, plainWriting, recordWriting}
+use Rattle.record_writer.proofs.RecordFaults.{check-same}
 
-pub ready : (f : Formula) → kindAndCounts (rowBy f) (plainShape (rowBy f) (f .shape) .p) (plainShape (rowBy f) (f .shape) .q) ≡ 0 → Ready (rowBy f) (plainBy (rowBy f) f)
-unfolding kindAndCounts plainBy plainShape
-ready f e =
-    let r = rowBy f in
-    let n = neither (onlyFormula (r .class)) _ e in
-    let k = formula-only (r .class) (n .0) in
-    let w = counted r (plainShape r (f .shape) .p) (plainShape r (f .shape) .q) (n .1) in
-    record {
-      ruled = ruled (codeFor (f .shape .kind));
-      ordered = ordered (codeFor (f .shape .kind)) k;
-      class = k;
-      kind = sym (kind-of-row (f .shape .kind));
-      p = w .0;
-      q = w .1;
-    }
+-- ---- past the counts: the record can be put together, and its bytes are judged as the formula is
+module _ (f : Formula) (c : rowBy f .class ≡ FormulaRecord) (n : countFault (rowBy f) (plainShape (rowBy f) (f .shape) .p) (plainShape (rowBy f) (f .shape) .q) ≡ 0) where
+  pub ready : Ready (rowBy f) (plain f)
+  ready = let w = counted (rowBy f) _ _ n in handed.ready f c (w .0) (w .1)
 
-pub room : (r : Row) (f : Formula) (n : ℕ) → valuesAndRoom r f n ≡ 0 → (innerFault r f ≡ 0) × (lengthBy r (f .shape .p) (f .shape .q) ≤ n)
-unfolding valuesAndRoom
-room r f n e =
-    let v = neither (innerFault r f) _ e in
-    (v .0, ltb-false _ _ (passed (ltb n (lengthBy r (f .shape .p) (f .shape .q))) 12 0 (λ z. omega arith) (v .1) .0))
+  pub tidy : Handed f → Tidy (rowBy f) (plain f)
+  tidy h = let w = counted (rowBy f) _ _ n in handed.tidy f c (w .0) (w .1) h
 
--- all at place 0
-pub record-place : (f : Formula) (room : ℕ) → writingPlace (recordWriting f room) ≡ 0
-unfolding plainWriting
-record-place f room = at (kindAndCounts (rowBy f) (plain f .shape .p) (plain f .shape .q)) (valuesAndRoom (rowBy f) (plain f) room) _
+  pub judged : (s room : ℕ) → Handed f → judgedWriting s (bytesOf f) room ≡ plainWriting s (rowBy f) (plain f) room
+  unfolding judgedWriting plainWriting plainBy
+  judged s room h =
+      let d = tidy h in
+      ap₂ (λ (fault size : ℕ). guard fault refusedBy (roomWriting size room)) (check-same (rowBy f) (plain f) d n s) (length-record (rowBy f) (plain f) (d .ready))
+      ∙ sym (ap (λ (fault : ℕ). guard fault refusedBy (guard (valueFault s (rowBy f) (plain f .shape) (f .lo) (f .hi) (wordsIn (plain f))) refusedBy (roomWriting (lengthBy (rowBy f) (plain f .shape .p) (plain f .shape .q)) room))) n)
+
+-- ---- all at place 0
+at-zero : (fault : ℕ) (x : Writing) → writingPlace x ≡ 0 → writingPlace (guard fault refusedBy x) ≡ 0
+at-zero fault x e = by (eqb fault 0)
   where
-    by : (t u : Bool) (a b n : ℕ) → writingPlace (cond t (cond u (Written n) (refusedBy b)) (refusedBy a)) ≡ 0
-    by true true a b n = refl
-    by true false a b n = refl
-    by false u a b n = refl
+    by : (t : Bool) → writingPlace (cond t x (refusedBy fault)) ≡ 0
+    by true = e
+    by false = refl
 
-    at : (a b n : ℕ) → writingPlace (guard a refusedBy (guard b refusedBy (Written n))) ≡ 0
-    at a b n = by (eqb a 0) (eqb b 0) a b n
+room-place : (n room : ℕ) → writingPlace (roomWriting n room) ≡ 0
+unfolding roomWriting
+room-place n room = by (ltb room n)
+  where
+    by : (t : Bool) → writingPlace (cond t (refusedBy 12) (Written n)) ≡ 0
+    by true = refl
+    by false = refl
+
+plain-place : (s : ℕ) (r : Row) (f : Formula) (room : ℕ) → writingPlace (plainWriting s r f room) ≡ 0
+unfolding plainWriting
+plain-place s r f room =
+    let x = roomWriting (lengthBy r (f .shape .p) (f .shape .q)) room in
+    let v = valueFault s r (f .shape) (f .lo) (f .hi) (wordsIn f) in
+    at-zero (countFault r (f .shape .p) (f .shape .q)) (guard v refusedBy x) (at-zero v x (room-place _ room))
+
+pub record-place : (s : ℕ) (f : Formula) (room : ℕ) → writingPlace (recordWriting s f room) ≡ 0
+unfolding recordWriting
+record-place s f room =
+    let x = plainWriting s (rowBy f) (plain f) room in
+    at-zero (onlyFormula (rowBy f .class)) (guard (scaleFault s) refusedBy x) (at-zero (scaleFault s) x (plain-place s (rowBy f) (plain f) room))

@@ -1,73 +1,81 @@
--- The record writer: what it answers for a formula and a buffer of so many bytes, and what it writes.
-use Prim.Native.Nat.{ℕ, _<_}
+-- The record writer at s binary places: what it answers for a formula and a buffer of so many bytes, and what it writes.
+use Prim.Native.Nat.{ℕ}
 use mathlib.Core.Path.{_≡_, refl}
 use mathlib.Core.List.{List, [], _∷_}
 use mathlib.Core.Bool.{cond}
 use lib.Dec.{ltb}
-use lib.ListN.{length}
+use lib.ListN.{length, replicate}
 use lib.IntN.{pos}
-use Rattle.formula.specs.declared.Kind.the-variants.{Root, NoFormula}
+use Rattle.word.specs.Rounded.{roundedUp}
+use Rattle.stored.specs.Numbers.{bytes2, bytes4}
+use Rattle.polynomial.specs.Polynomial.{boundOf}
+use Rattle.formula.specs.declared.Kind.the-variants.{Polynomial, Root, NoFormula}
 use Rattle.formula.specs.declared.Formula.{Formula}
 use Rattle.table.specs.declared.Row.{Row}
-use Rattle.table.specs.Table.{rows, firstRow, rowOf, wordsBy, lengthBy}
-use Rattle.layout.specs.Numbers.{bytes2, bytes4}
-use Rattle.layout.specs.Fields.{shape, formula, padded}
+use Rattle.table.specs.Table.{rows, firstRow, rowOf, piecesBy, lengthBy}
+use Rattle.table.specs.Codes.{codeFor}
+use Rattle.layout.specs.Fields.{shape, formula, padded, rowFor}
+use Rattle.layout.specs.Plain.{wordsIn, kept, plainShape, plainBy, rowBy, plain}
+use Rattle.layout.specs.Bytes.{frontBytes, headBytes, fieldBytes, fieldsBytes, wordBytes, recordBytes}
 use Rattle.records.specs.Guard.{guard, orElse}
-use Rattle.records.specs.Faults.{outside, countFault, intervalFault, wordsFault, valueFault, innerFault}
-use Rattle.record_bytes.specs.Kinds.{onlyFormula, kept, plainShape, plainBy, rowBy, plain}
-use Rattle.record_bytes.specs.Bytes.{headBytes, fieldBytes, fieldsBytes, wordBytes, recordBytes}
+use Rattle.records.specs.Faults.{outside, countFault, intervalFault, wordsFault, ownFault, valueFault, scaleFault, onlyFormula, formulaFault}
 use Rattle.record_writer.specs.Answers.{refusedBy}
 use Rattle.record_writer.specs.declared.answers.Writing.{Writing}
 use Rattle.record_writer.specs.declared.answers.Writing.the-variants.{Written}
 
--- 3 first of all for a kind that is no formula; a count outside its range (2)
-unfoldable pub kindAndCounts : Row → ℕ → ℕ → ℕ
-kindAndCounts r p q = orElse (onlyFormula (r .class)) (countFault r p q)
+-- 12 if the buffer is shorter than the record
+unfoldable pub roomWriting : ℕ → ℕ → Writing
+roomWriting n room = cond (ltb room n) (refusedBy 12) (Written n)
 
--- 6; 7 or 8; then 12 if the buffer is shorter than the record
-unfoldable pub valuesAndRoom : Row → Formula → ℕ → ℕ
-valuesAndRoom r f room = orElse (innerFault r f) (cond (ltb room (lengthBy r (f .shape .p) (f .shape .q))) 12 0)
+-- 2 for a count outside its range; 6; 7 or 8
+unfoldable pub plainWriting : ℕ → Row → Formula → ℕ → Writing
+plainWriting s r f room =
+    guard (countFault r (f .shape .p) (f .shape .q)) refusedBy
+    (guard (valueFault s r (f .shape) (f .lo) (f .hi) (wordsIn f)) refusedBy
+    (roomWriting (lengthBy r (f .shape .p) (f .shape .q)) room))
 
--- all at place 0
-unfoldable pub plainWriting : Row → Formula → ℕ → Writing
-plainWriting r f room =
-    guard (kindAndCounts r (f .shape .p) (f .shape .q)) refusedBy
-    (guard (valuesAndRoom r f room) refusedBy
-    (Written (lengthBy r (f .shape .p) (f .shape .q))))
-
--- fields that the kind has not are ignored
-abbrev pub recordWriting : Formula → ℕ → Writing
-recordWriting f room = plainWriting (rowBy f) (plain f) room
+-- 3 first of all for a kind that is no formula, then 6 for binary places that no board has. Fields that the kind has not are ignored
+unfoldable pub recordWriting : ℕ → Formula → ℕ → Writing
+recordWriting s f room =
+    guard (onlyFormula (rowBy f .class)) refusedBy
+    (guard (scaleFault s) refusedBy
+    (plainWriting s (rowBy f) (plain f) room))
 
 abbrev pub bytesOf : Formula → List ℕ
 bytesOf f = recordBytes (rowBy f) (plain f)
 
--- a formula as code hands it over: its number fits two bytes, and there are 32 words
-pub record Handed (f : Formula) : Type 0 where
-  pub number : f .number < 65536
-  pub words : length (f .words) ≡ 32
+-- what the reader's own check makes of a record's bytes, as those of the first of one formula
+unfoldable pub judgedWriting : ℕ → List ℕ → ℕ → Writing
+judgedWriting s b room = guard (orElse (onlyFormula (rowFor b .class)) (formulaFault s (rowFor b) b 0 1 0)) refusedBy (roomWriting (length b) room)
 
 -- ---- worked examples: the root of the paper's listing, with fields that a root has not
 abbrev exampleRoot : Formula
 exampleRoot = formula 1 (shape Root 7 7 7) (pos 0) (pos 33554432) (padded (pos 5 ∷ []))
 
-root-plain : plain exampleRoot ≡ formula 1 (shape Root 0 0 0) (pos 0) (pos 33554432) (padded [])
-unfolding rows firstRow rowOf wordsBy padded kept plainShape plainBy
-root-plain = refl
-
 root-bytes : bytesOf exampleRoot ≡ 0x10 ∷ 0 ∷ 0 ∷ 0 ∷ 0x13 ∷ 0 ∷ 1 ∷ 0 ∷ 0 ∷ 0 ∷ 0 ∷ 0 ∷ 0 ∷ 0 ∷ 0 ∷ 2 ∷ []
-unfolding rows firstRow rowOf bytes2 bytes4 wordsBy padded kept plainShape plainBy headBytes fieldBytes fieldsBytes wordBytes recordBytes
+unfolding rows firstRow rowOf codeFor bytes2 bytes4 piecesBy padded kept plainShape plainBy frontBytes headBytes fieldBytes fieldsBytes wordBytes recordBytes
 root-bytes = refl
 
-root-written : recordWriting exampleRoot 16 ≡ Written 16
-unfolding rows firstRow rowOf wordsBy padded kept plainShape plainBy kindAndCounts valuesAndRoom plainWriting outside countFault intervalFault wordsFault valueFault innerFault
-root-written = refl
+-- 12 at one byte short
+root-room : (recordWriting 24 exampleRoot 16 ≡ Written 16) × (recordWriting 24 exampleRoot 15 ≡ refusedBy 12)
+unfolding rows firstRow rowOf codeFor piecesBy padded kept plainShape plainBy outside countFault intervalFault wordsFault ownFault valueFault scaleFault roomWriting plainWriting recordWriting
+root-room = (refl, refl)
 
-too-short : recordWriting exampleRoot 15 ≡ refusedBy 12
-unfolding rows firstRow rowOf wordsBy padded kept plainShape plainBy kindAndCounts valuesAndRoom plainWriting outside countFault intervalFault wordsFault valueFault innerFault
-too-short = refl
+-- 16 to 28 binary places, and 6 comes before 12
+root-places : (recordWriting 15 exampleRoot 0 ≡ refusedBy 6) × (recordWriting 16 exampleRoot 16 ≡ Written 16) × (recordWriting 28 exampleRoot 16 ≡ Written 16) × (recordWriting 29 exampleRoot 0 ≡ refusedBy 6)
+unfolding rows firstRow rowOf codeFor piecesBy padded kept plainShape plainBy outside countFault intervalFault wordsFault ownFault valueFault scaleFault roomWriting plainWriting recordWriting
+root-places = (refl, refl, refl, refl)
 
--- no formula: 3 comes before 6 (lo above hi) and 12
-no-formula : recordWriting (formula 1 (shape NoFormula 0 0 0) (pos 1) (pos 0) (padded [])) 0 ≡ refusedBy 3
-unfolding rows firstRow rowOf kindAndCounts plainWriting
+-- a polynomial with so many coefficients, all of them 0
+abbrev zeros : ℕ → Formula
+zeros n = formula 1 (shape Polynomial n 0 0) (pos 0) (pos 0) (replicate 32 (pos 0))
+
+-- 1 to 16 coefficients
+counts : (recordWriting 24 (zeros 0) 120 ≡ refusedBy 2) × (recordWriting 24 (zeros 1) 20 ≡ Written 20) × (recordWriting 24 (zeros 16) 80 ≡ Written 80) × (recordWriting 24 (zeros 17) 120 ≡ refusedBy 2)
+unfolding roundedUp boundOf rows firstRow rowOf codeFor piecesBy padded kept plainShape plainBy outside countFault intervalFault wordsFault ownFault valueFault scaleFault roomWriting plainWriting recordWriting
+counts = (refl, refl, refl, refl)
+
+-- no formula: 3 comes before 6 (the places, and lo above hi) and 12
+no-formula : recordWriting 0 (formula 1 (shape NoFormula 0 0 0) (pos 1) (pos 0) (padded [])) 0 ≡ refusedBy 3
+unfolding rows firstRow rowOf codeFor recordWriting
 no-formula = refl

@@ -19,7 +19,12 @@ fn put_sheet(out: &mut [u8], run: &[u8], count: u16)
     let start = table::row_of(table::START);
     putting::put_framing(out, 0, start, count);
     stored::put_bytes(out, start.head, run);
-    putting::put_framing(out, start.head + run.len(), table::row_of(table::END), count);
+    putting::put_framing(
+        out,
+        start.head + run.len(),
+        table::row_of(table::END),
+        count,
+    );
 }
 
 // The run as it will stand in the sheet, behind the start.
