@@ -13,6 +13,7 @@ int ferror(FILE *);
 int fflush(FILE *);
 int fclose(FILE *);
 int printf(const char *, ...);
+int snprintf(char *, size_t, const char *, ...);
 int fprintf(FILE *, const char *, ...);
 int putchar(int);
 #endif
