@@ -6,7 +6,7 @@ cd "$(dirname "$0")/.." || exit 2
 . tests/lib.sh
 room=$(mktemp -d)
 trap 'chmod -R u+w "$room" && rm -rf "$room"' EXIT
-./build-library >"$room/log" 2>&1 || { tail -n 5 "$room/log"; fail './build-library'; }
+./build-library >"$room/log" 2>&1 || { tail -n 5 "$room/log"; fail './build-library'; conclude; exit 1; }
 listed=$(printf 'formulas 1\n1 root 0 33554432')
 printf '\10\0\0\0\1\0\1\0\20\0\0\0\23\0\1\0\0\0\0\0\0\0\0\2\10\0\0\0\377\377\1\0' >"$room/sheet"
 copy="$room/a copy"

@@ -7,7 +7,7 @@ room=$(mktemp -d)
 trap 'rm -rf "$room"' EXIT
 root=$PWD
 command=$root/valvepigeon
-./build-library >"$room/log" 2>&1 || { tail -n 5 "$room/log"; fail './build-library'; }
+./build-library >"$room/log" 2>&1 || { tail -n 5 "$room/log"; fail './build-library'; conclude; exit 1; }
 
 # Runs the command. Its output is exactly this text, its status this one, and standard error has this text, or nothing.
 gives() { # STATUS OUTPUT TOLD WORD...

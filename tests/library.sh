@@ -5,6 +5,7 @@ cd "$(dirname "$0")/.." || exit 2
 . tests/lib.sh
 room=$(mktemp -d)
 trap 'rm -rf "$room"' EXIT
+./build-library >"$room/log" 2>&1 || { tail -n 5 "$room/log"; fail './build-library'; conclude; exit 1; }
 prefix=$room/prefix
 version=$(sed -n 's/^#define VP_VERSION_STRING "\(.*\)"/\1/p' include/valvepigeon.h)
 
@@ -14,7 +15,6 @@ right() { # WHAT COMMAND...
     if "$@" >"$room/log" 2>&1; then pass; else fail "$what: $(tail -n 5 "$room/log")"; fi
 }
 
-right './build-library' ./build-library
 right 'the constants' link_c "$room/constants" tests/constants.c target/staticlib/libvalvepigeon.a
 right 'the constants' run_x86 "$room/constants"
 right './install' ./install "$prefix"
@@ -56,6 +56,7 @@ compiled() {
     flags=$(PKG_CONFIG_PATH=$prefix/lib/pkgconfig pkg-config --cflags --libs valvepigeon)
     # shellcheck disable=SC2086
     right 'cc through pkg-config' cc -std=c99 -pedantic -Wall -Wextra -Werror -o "$room/shared" "$room/program.c" $flags
+    right 'the name that the program has of the shared library' grep -q "libvalvepigeon[.]so[.]${version%%.*}" "$room/shared"
     prints 'with the shared library' "$room/shared"
     mv "$prefix/lib/libvalvepigeon.so" "$room"
     prints 'with the shared library by its own name alone' "$room/shared"

@@ -5,6 +5,7 @@ cd "$(dirname "$0")/.." || exit 2
 . tests/lib.sh
 room=$(mktemp -d)
 trap 'rm -rf "$room"' EXIT
+./build-library >"$room/log" 2>&1 || { tail -n 5 "$room/log"; fail './build-library'; conclude; exit 1; }
 
 right() { # WHAT COMMAND...
     local what=$1
@@ -20,6 +21,7 @@ cp -R target/command target/staticlib "$room/copy/target"
 mkdir -p "$room/copy/bindings/python/__pycache__" "$room/copy/bindings/rust/target"
 : >"$room/copy/bindings/python/__pycache__/left.pyc"
 : >"$room/copy/bindings/rust/target/left"
+sleep 1    # a tar's times are in seconds
 find "$room/copy" -type f -exec touch -d 2001-02-03 {} + -exec chmod go= {} +
 right './release of the copy' env TZ=Asia/Tokyo LC_ALL=C.UTF-8 bash -c 'umask 077 && "$1" "$2"' bash "$room/copy/release" "$room/second"
 if cmp "$room"/first/*.tar "$room"/second/*.tar; then pass; else fail 'the two are not the same bytes'; fi
