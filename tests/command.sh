@@ -82,6 +82,19 @@ gives 1 "../empty/gone.sheet: unreadable: No such file or directory.
 gives 0 './-dash.sheet: ok, 1 formula
 1 checked: 1 ok, 0 refused, 0 too long, 0 unreadable
 ' '' check -- -dash.sheet
+# a folder that may not be read hides no sheet
+mkdir "$room/half" "$room/half/locked"
+cp good.sheet "$room/half"
+chmod a+rx "$room" "$room/half" && chmod a= "$room/half/locked"
+as_nobody=()
+if [ "$(id -u)" = 0 ]; then as_nobody=(setpriv --reuid=65534 --regid=65534 --clear-groups); fi
+if "${as_nobody[@]}" test -x "$command"; then
+    said=$("${as_nobody[@]}" "$command" check "$room/half" 2>&1)
+    status=$?
+    if [ "$status" -eq 1 ] && [ "$(tail -n 1 <<<"$said")" = '2 checked: 1 ok, 0 refused, 0 too long, 1 unreadable' ]; then pass; else fail "check of a locked folder: $said"; fi
+else
+    echo 'skipped: check of a locked folder, as root cannot be nobody here'
+fi
 gives 2 '' "$wrong check" check
 gives 2 '' "$wrong check" check --loud good.sheet
 
