@@ -51,7 +51,8 @@ progress() { # CRATES-IN-ALL
 prove() {
     local crates
     mapfile -t crates < <(crates_below valvepigeon listing)    # valvepigeon is the first, and is left to the second command
-    rt check "${crates[@]:1}" 2>&1 </dev/null | progress ${#crates[@]} || return 1
+    rt check "${crates[@]:1}" 2>&1 </dev/null | progress ${#crates[@]}
+    [ "${PIPESTATUS[0]}" -eq 0 ] || return 1
     rt staticlib valvepigeon >>"$own/log" 2>&1 </dev/null || return 1
     tell "${#crates[@]} of ${#crates[@]}: valvepigeon proved"
 }
@@ -99,7 +100,7 @@ ensure_built() {
     is_built && return
     (
         { cd "$root" && mkdir -p "$own" && exec 9>"$own/lock"; } 2>/dev/null || { tell "$root may not be written to, and it has to be built there"; exit 1; }
-        lock 9
+        lock 9 || exit 1
         is_built || build
     )
 }

@@ -23,12 +23,13 @@ sleep 0.1
 if [ "$1" = check ]; then
     mkdir -p target/bin && cp "$BUILT/target/command/listing" target/bin
     for crate in "${@:2}"; do echo "rt: $crate proved (0 s)"; done
-    [ -z "$REFUSE" ] || echo 'rt: FAILED: listing'
+    [ -z "$REFUSE" ]
 else
     mkdir -p target/staticlib && cp "$BUILT/target/staticlib/libvalvepigeon.a" target/staticlib
 fi
+status=$?
 rmdir "$NOTES/busy"
-[ -z "$REFUSE" ]
+exit $status
 R
 chmod +x "$room/stand-in/rt"
 path=$room/stand-in:$PATH    # what the command finds its tools by
