@@ -1,5 +1,6 @@
 #!/usr/bin/env bash
-# The README's commands print what it shows: the listed sheet, and the worked example from a typed formula to its answers.
+# The README's commands print what it shows: the listed sheet, the formula that is asked, and the worked example from a typed
+# formula to its answers.
 set -u
 cd "$(dirname "$0")/.." || exit 2
 . tests/lib.sh
@@ -13,7 +14,8 @@ sys.exit(('\n' + sys.argv[1] + '\n') not in open('README.md', encoding='utf-8').
 P
 }
 
-shown ./list-sheet sheets/tangent.sheet
+shown ./valvepigeon list sheets/tangent.sheet
+shown ./valvepigeon ask sheets/tangent.sheet 54 0.5 -0.25 8388608w
 shown ./examples/run
-shown ./list-sheet target/desk.sheet
+shown ./valvepigeon list target/desk.sheet
 conclude

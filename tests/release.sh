@@ -1,0 +1,51 @@
+#!/usr/bin/env bash
+# ./release: twice the same bytes, whatever the hour, the umask and what lies about; and what is unpacked works.
+set -u
+cd "$(dirname "$0")/.." || exit 2
+. tests/lib.sh
+room=$(mktemp -d)
+trap 'rm -rf "$room"' EXIT
+./build-library >"$room/log" 2>&1 || { tail -n 5 "$room/log"; fail './build-library'; conclude; exit 1; }
+
+right() { # WHAT COMMAND...
+    local what=$1
+    shift
+    if "$@" >"$room/log" 2>&1; then pass; else fail "$what: $(tail -n 5 "$room/log")"; fi
+}
+
+right './release' ./release "$room/first"
+# a copy of what the second is made of, with other times and modes
+mkdir "$room/copy" "$room/copy/target"
+cp -R bindings command crates crates.txt include install library release scripts sheets valvepigeon "$room/copy"
+cp -R target/command target/staticlib "$room/copy/target"
+mkdir -p "$room/copy/bindings/python/__pycache__" "$room/copy/bindings/rust/target"
+: >"$room/copy/bindings/python/__pycache__/left.pyc"
+: >"$room/copy/bindings/rust/target/left"
+sleep 1    # a tar's times are in seconds
+find "$room/copy" -type f -exec touch -d 2001-02-03 {} + -exec chmod go= {} +
+right './release of the copy' env TZ=Asia/Tokyo LC_ALL=C.UTF-8 bash -c 'umask 077 && "$1" "$2"' bash "$room/copy/release" "$room/second"
+if cmp "$room"/first/*.tar "$room"/second/*.tar; then pass; else fail 'the two are not the same bytes'; fi
+if [ "$(ls "$room/first")" = "$(basename "$room"/first/*.tar)" ]; then pass; else fail "beside the tar: $(ls "$room/first")"; fi
+
+mkdir "$room/unpacked"
+right 'unpacking' python3 -m tarfile -e "$room"/first/*.tar "$room/unpacked"
+cd "$room"/unpacked/* || exit 2
+right 'the checksums' sha256sum -c SHA256SUMS
+for file in README include/valvepigeon.h lib/libvalvepigeon.a lib/libvalvepigeon.so libexec/valvepigeon/listing bindings/python bindings/rust; do
+    right "$file" test -e "$file"
+done
+right 'every sheet' diff <(cd "$OLDPWD/sheets" && sha256sum ./*.sheet) <(cd sheets && sha256sum ./*.sheet)
+right 'every file but the checksums has one' diff <(find . -type f ! -name SHA256SUMS | LC_ALL=C sort) <(cut -c 67- SHA256SUMS)
+if [ "$(uname -m)" = x86_64 ]; then
+    right 'the released command' env PATH=/usr/bin:/bin ./valvepigeon check sheets
+else
+    echo "skipped: the released command, it is for x86-64 and this is $(uname -m)"
+fi
+
+cd "$OLDPWD" || exit 2
+./release --loud >"$room/log" 2>&1
+if [ $? -eq 2 ]; then pass; else fail './release --loud is no wrong call'; fi
+: >"$room/file"
+./release "$room/file" >"$room/log" 2>&1
+if [ $? -eq 1 ] && grep -q 'could not be made' "$room/log"; then pass; else fail './release where nothing can be written'; fi
+conclude
