@@ -47,11 +47,14 @@ if TYPE_CHECKING:
 # The kinds of formula records.
 POLYNOMIAL, RATIONAL, FRACTION, ROOT = 0x0010, 0x0011, 0x0012, 0x0013
 
-# No record is longer.
-LONGEST_RECORD = 120
+# The longest record and what a sheet adds to its run, in bytes; a sheet's limit.
+LONGEST_RECORD, SHEET_ADDS, MOST_FORMULAS = 120, 16, 64
 
-# What a sheet adds to its run of records.
-SHEET_EXTRA = 16
+# The numbers of the refusals; `message` says what each means.
+CUT_SHORT, WRONG_LENGTH, WRONG_KIND, WRONG_COUNT = 1, 2, 3, 4
+NUMBER_NOT_ABOVE, WRONG_VALUE, RANGE_LEFT, DIVISOR_ZERO = 5, 6, 7, 8
+BYTES_AFTER_END, ARGUMENT_OUTSIDE, NO_SUCH_FORMULA = 9, 10, 11
+BUFFER_TOO_SHORT, NOT_FINITE = 12, 13
 
 
 class Refused(Exception):
@@ -236,7 +239,7 @@ def write_sheet(run: ReadableBuffer, *, room: Optional[int] = None) -> bytes:
     byte, so the run begins at 8.
     """
     if room is None:
-        room = memoryview(run).nbytes + SHEET_EXTRA
+        room = memoryview(run).nbytes + SHEET_ADDS
     out = ctypes.create_string_buffer(_within(room, 0, sys.maxsize))
     length = _lent("vp_write_sheet", run, out, room).length
     return out[:length]

@@ -1,0 +1,43 @@
+//! Finds `libvalvepigeon.a` and has it linked. It is looked for where the variable VALVEPIGEON_LIBRARY_DIR says, else in the
+//! repository or the release that this package stands in, else where pkg-config says.
+
+use std::path::{Path, PathBuf};
+use std::process::{exit, Command};
+
+const VARIABLE: &str = "VALVEPIGEON_LIBRARY_DIR";
+const ARCHIVE: &str = "libvalvepigeon.a";
+
+fn by_pkg_config() -> Option<PathBuf> {
+    let said = Command::new("pkg-config").args(["--variable=libdir", "valvepigeon"]).output().ok()?;
+    let folder = String::from_utf8(said.stdout).ok()?;
+    (said.status.success() && !folder.trim().is_empty()).then(|| PathBuf::from(folder.trim()))
+}
+
+/// The folders to look in, the first first. What the variable says is not passed over.
+fn folders() -> Vec<PathBuf> {
+    if let Some(said) = std::env::var_os(VARIABLE).filter(|said| !said.is_empty()) {
+        return vec![PathBuf::from(said)];
+    }
+    let top = Path::new(env!("CARGO_MANIFEST_DIR")).join("../..");
+    [top.join("target/staticlib"), top.join("lib")].into_iter().chain(by_pkg_config()).collect()
+}
+
+fn main() {
+    println!("cargo:rerun-if-env-changed={VARIABLE}");
+    let Some(folder) = folders().into_iter().find(|folder| folder.join(ARCHIVE).is_file()) else {
+        eprintln!(
+            "{ARCHIVE} is not found: run ./build-library in the repository, which makes it for x86-64 Linux, \
+             or set {VARIABLE} to the folder that holds it"
+        );
+        exit(1)
+    };
+    println!("cargo:rerun-if-changed={}", folder.join(ARCHIVE).display());
+    println!("cargo:rustc-link-search=native={}", folder.display());
+    println!("cargo:rustc-link-lib=static=valvepigeon");
+
+    // Until vp_message is in every archive.
+    println!("cargo:rustc-check-cfg=cfg(has_message)");
+    if std::fs::read(folder.join(ARCHIVE)).is_ok_and(|bytes| bytes.windows(10).any(|part| part == b"vp_message")) {
+        println!("cargo:rustc-cfg=has_message");
+    }
+}
