@@ -122,7 +122,8 @@ class Sheets(Case):
                       memoryview(b"xx" + SHEET + b"yy")[2:-2],
                       memoryview(bytearray(b"xx" + SHEET + b"yy"))[2:-2],
                       memoryview(SHEET).cast("B", (4, 8)), mapped,
-                      memoryview(spread)[::2], memoryview(SHEET[::-1])[::-1]):
+                      memoryview(spread)[::2], memoryview(SHEET[::-1])[::-1],
+                      memoryview(bytearray(spread))[::2]):
             self.assertEqual(vp.evaluate(sheet, 1, 2 * ONE).word, 23726566)
         self.assertEqual(vp.write_sheet(array("I", SHEET[8:24])), SHEET)
 
