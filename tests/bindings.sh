@@ -37,7 +37,7 @@ laid_out() { # LANGUAGE COMMAND...
 }
 
 rust_layout() {
-    rustc --edition 2021 -o "$room/layout-rs" bindings/rust/layout.rs && "$room/layout-rs"
+    rustc --edition 2021 -D warnings -o "$room/layout-rs" bindings/rust/layout.rs && "$room/layout-rs"
 }
 
 laid_out python python3 bindings/python/layout.py
@@ -46,7 +46,7 @@ wrong 'bindings/python without the library' 'run ./build-library' \
     env PYTHONPATH=bindings/python VALVEPIGEON_LIBRARY="$room/none.so" python3 -c 'import valvepigeon; valvepigeon.count(b"")'
 if here rustc && here cc; then
     laid_out rust rust_layout
-    right 'bindings/rust in edition 2024' rustc --edition 2024 --crate-type lib --emit metadata -o "$room/lib.rmeta" bindings/rust/src/lib.rs
+    right 'bindings/rust in edition 2024' rustc --edition 2024 -D warnings --crate-type lib --emit metadata -o "$room/lib.rmeta" bindings/rust/src/lib.rs
 else
     echo 'skipped: bindings/rust, no rustc or no linker is here'
 fi
@@ -59,7 +59,7 @@ tests_away() { # VARIABLE=VALUE...
 }
 
 installed() {
-    python3 -m pip install --no-index --no-build-isolation --target "$room/site" ./bindings/python &&
+    python3 -m pip install --no-index --target "$room/site" ./bindings/python &&
         [ -f "$room/site/valvepigeon/libvalvepigeon.so" ] && tests_away PYTHONPATH="$room/site"
 }
 

@@ -22,14 +22,21 @@ fn folders() -> Vec<PathBuf> {
     [top.join("target/staticlib"), top.join("lib")].into_iter().chain(by_pkg_config()).collect()
 }
 
+fn stop(why: &str) -> ! {
+    eprintln!("{why}");
+    exit(1)
+}
+
 fn main() {
     println!("cargo:rerun-if-env-changed={VARIABLE}");
+    let target = std::env::var("TARGET").unwrap_or_default();
+    if !(target.starts_with("x86_64") && target.contains("linux")) {
+        stop(&format!("{ARCHIVE} is for x86-64 Linux, and cannot be linked for {target}"));
+    }
     let Some(folder) = folders().into_iter().find(|folder| folder.join(ARCHIVE).is_file()) else {
-        eprintln!(
-            "{ARCHIVE} is not found: run ./build-library in the repository, which makes it for x86-64 Linux, \
-             or set {VARIABLE} to the folder that holds it"
-        );
-        exit(1)
+        stop(&format!(
+            "{ARCHIVE} is not found: run ./build-library in the repository, or set {VARIABLE} to the folder that holds it"
+        ))
     };
     println!("cargo:rerun-if-changed={}", folder.join(ARCHIVE).display());
     println!("cargo:rustc-link-search=native={}", folder.display());

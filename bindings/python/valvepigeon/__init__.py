@@ -20,11 +20,10 @@ divided by 2^24. Every function takes any bytes; it gives its answer or raises
         ...
     valvepigeon.Refused: refused 10 at 0...
 
-A sheet is any bytes-like object, whose length counts in bytes; it is read
-where it stands, or from a copy where it is not in one piece or may only be
-read. A number is an int, the argument of `evaluate_double` an int or a float;
-anything else, a bool too, is a TypeError. A number that C could not be given
-(a formula number outside 0..65535, say) is an OverflowError.
+A sheet is any bytes-like object, and its length counts in bytes. A number is an
+int, the argument of `evaluate_double` an int or a float; anything else, a bool
+too, is a TypeError. A number that C could not be given (a formula number
+outside 0..65535, say) is an OverflowError.
 
 `pip install ./bindings/python` installs it. The shared library, which
 `./build-library` makes on x86-64 Linux, is looked for where the variable
@@ -122,8 +121,8 @@ def _int(value: int) -> int:
     return value
 
 
-# ctypes would cut off the upper bits. The value itself may be too long to print.
 def _within(value: int, low: int, high: int) -> int:
+    """The value, if C can be given it: ctypes would cut off its upper bits."""
     if not low <= _int(value) <= high:
         raise OverflowError(f"an int from {low} to {high} is asked for")
     return value
@@ -156,19 +155,21 @@ def _struct(fields: Fields) -> _library.FieldsStruct:
     if asked_for is not None and len(words) != asked_for:
         raise ValueError(
             f"{len(words)} words, where the counts ask for {asked_for}")
-    # More than 32 go with a kind or count that is refused before any is read.
-    words = (ctypes.c_int32 * _library.WORDS)(*words[:_library.WORDS])
+    # More than fit go with a kind or count that is refused before any is read.
     return _library.FieldsStruct(
         kind, _u16(fields.number), _i32(fields.lo), _i32(fields.hi), p, q,
-        _u16(fields.mode), words)
+        _u16(fields.mode),
+        (ctypes.c_int32 * _library.WORDS)(*words[:_library.WORDS]))
 
 
 def _start(view: memoryview) -> Any:
-    """Where a view's bytes begin; or their copy, where ctypes cannot lend them."""
-    if view.c_contiguous and not view.readonly:
+    """A view's bytes as ctypes takes them: the address of what may be written,
+    a bytes object itself, and a copy of anything else."""
+    if not view.c_contiguous:
+        return view.tobytes()
+    if not view.readonly:
         return ctypes.addressof((ctypes.c_char * 0).from_buffer(view))
-    if view.c_contiguous and isinstance(view.obj, bytes) \
-            and view.nbytes == len(view.obj):
+    if isinstance(view.obj, bytes) and view.nbytes == len(view.obj):
         return view.obj
     return view.tobytes()
 

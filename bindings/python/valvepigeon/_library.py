@@ -55,7 +55,7 @@ def found() -> Optional[pathlib.Path]:
     if said:
         return pathlib.Path(said)
     here = pathlib.Path(__file__).resolve().parent
-    top = here.parents[2]
+    top = here.parent.parent.parent
     for folder in (here, top / "target" / "staticlib", top / "lib"):
         if (folder / NAME).is_file():
             return folder / NAME
@@ -70,15 +70,15 @@ def loaded() -> ctypes.PyDLL:
         # CDLL would let other threads run during a call, and one of them could
         # change the bytes that are lent. A call is short.
         library = ctypes.PyDLL(str(found() or NAME))
-    except OSError as error:
+        for name, (result, arguments) in _FUNCTIONS.items():
+            function = getattr(library, name)
+            function.restype, function.argtypes = result, arguments
+    except (OSError, AttributeError) as error:
         raise OSError(
-            f"the library of Valvepigeon cannot be loaded ({error}); run "
+            f"Valvepigeon's library cannot be loaded ({error}): run "
             "./build-library in the repository, which makes it on x86-64 Linux "
             "where a C compiler is, or set VALVEPIGEON_LIBRARY to the path of "
             f"its {NAME}") from None
-    for name, (result, arguments) in _FUNCTIONS.items():
-        function = getattr(library, name)
-        function.restype, function.argtypes = result, arguments
     return library
 
 
