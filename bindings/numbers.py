@@ -8,6 +8,7 @@ import re
 import sys
 
 import valvepigeon
+from valvepigeon import _library
 
 HEADER = "include/valvepigeon.h"
 RUST = "bindings/rust/src/lib.rs"
@@ -37,4 +38,6 @@ versions = [version for path, pattern in VERSIONS.items()
             for version in stated(path, pattern)]
 if len(set(versions)) != 1:
     faults.append(f"versions {versions}")
+if _library.LOADER_NAME != _library.NAME + "." + versions[0].split(".")[0]:
+    faults.append(f"{_library.LOADER_NAME} is not that of {versions[0]}")
 sys.exit("\n".join(faults) or None)

@@ -63,12 +63,15 @@ installed() {
         [ -f "$room/site/valvepigeon/libvalvepigeon.so" ] && tests_away PYTHONPATH="$room/site"
 }
 
+# A release, with a blank in its name: lib/ and bindings/. Elsewhere a package alone.
+release="$room/the release" alone=$room/alone
+
 call_python() {
-    local alone="$room/a folder"
-    mkdir "$alone" && cp -R bindings/python/valvepigeon "$alone" && cp target/staticlib/libvalvepigeon.so "$room"
+    cp target/staticlib/libvalvepigeon.so "$room/named.so" && cp target/staticlib/libvalvepigeon.so "$room/libvalvepigeon.so.1"
     right 'bindings/python in the repository' python3 bindings/python/test.py
-    right 'bindings/python by the variable' tests_away PYTHONPATH="$alone" VALVEPIGEON_LIBRARY="$room/libvalvepigeon.so"
-    right 'bindings/python by the loader' tests_away PYTHONPATH="$alone" LD_LIBRARY_PATH="$room"
+    right 'bindings/python in a release' tests_away PYTHONPATH="$release/bindings/python"
+    right 'bindings/python by the variable' tests_away PYTHONPATH="$alone/python" VALVEPIGEON_LIBRARY="$room/named.so"
+    right 'bindings/python by the loader' tests_away PYTHONPATH="$alone/python" LD_LIBRARY_PATH="$room"
     if python3 -m pip --version >"$room/where" 2>&1; then
         right 'bindings/python installed' installed
     else
@@ -76,15 +79,28 @@ call_python() {
     fi
 }
 
+cargo_in() { # FOLDER WORD...
+    local folder=$1
+    shift
+    cargo "$@" --offline --locked --manifest-path "$folder/Cargo.toml"
+}
+
 call_rust() {
-    local build=(--offline --locked --manifest-path bindings/rust/Cargo.toml)
-    right 'bindings/rust in the repository' cargo test "${build[@]}"
-    wrong 'bindings/rust without the library' 'run ./build-library' env VALVEPIGEON_LIBRARY_DIR="$room/none" cargo build "${build[@]}"
+    right 'bindings/rust in the repository' cargo_in bindings/rust test
+    right 'bindings/rust in a release' cargo_in "$release/bindings/rust" build
+    if here pkg-config; then
+        PKG_CONFIG_PATH="$release/lib/pkgconfig" right 'bindings/rust by pkg-config' cargo_in "$alone/rust" build
+    else
+        echo 'skipped: bindings/rust by pkg-config, which is not here'
+    fi
+    VALVEPIGEON_LIBRARY_DIR=$room/none wrong 'bindings/rust without the library' 'run ./build-library' cargo_in bindings/rust build
 }
 
 if [ "$(uname -m)" = x86_64 ]; then
     right './build-library' ./build-library
-    if here cc gcc; then call_python; else echo 'skipped: the calls of bindings/python, no C compiler is here'; fi
+    mkdir -p "$release/lib/pkgconfig" && cp target/staticlib/libvalvepigeon.* "$release/lib" && cp -R bindings "$release" && cp -R bindings "$alone"
+    printf '%s\n' 'Name: valvepigeon' 'Description: for the test' 'Version: 1' >"$release/lib/pkgconfig/valvepigeon.pc"
+    if [ -f target/staticlib/libvalvepigeon.so ]; then call_python; else echo 'skipped: the calls of bindings/python, no shared library is here'; fi
     if here cargo && here cc; then call_rust; else echo 'skipped: the calls of bindings/rust, no cargo or no linker is here'; fi
 else
     echo "skipped: the calls of bindings/python and bindings/rust, the library is for x86-64 and this is $(uname -m)"

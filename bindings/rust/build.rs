@@ -7,10 +7,11 @@ use std::process::{exit, Command};
 const VARIABLE: &str = "VALVEPIGEON_LIBRARY_DIR";
 const ARCHIVE: &str = "libvalvepigeon.a";
 
+/// The folder above that of the file valvepigeon.pc, in whose name pkg-config puts a backslash before a blank.
 fn by_pkg_config() -> Option<PathBuf> {
-    let said = Command::new("pkg-config").args(["--variable=libdir", "valvepigeon"]).output().ok()?;
-    let folder = String::from_utf8(said.stdout).ok()?;
-    (said.status.success() && !folder.trim().is_empty()).then(|| PathBuf::from(folder.trim()))
+    let said = Command::new("pkg-config").args(["--variable=pcfiledir", "valvepigeon"]).output().ok()?;
+    let folder = String::from_utf8(said.stdout).ok()?.trim().replace('\\', "");
+    said.status.success().then(|| Path::new(&folder).join(".."))
 }
 
 /// The folders to look in, the first first. What the variable says is not passed over.

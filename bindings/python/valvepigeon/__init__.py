@@ -27,8 +27,8 @@ outside 0..65535, say) is an OverflowError.
 
 `pip install ./bindings/python` installs it. The shared library, which
 `./build-library` makes on x86-64 Linux, is looked for where the variable
-VALVEPIGEON_LIBRARY says, beside this module, in the repository, and where the
-system's loader looks.
+VALVEPIGEON_LIBRARY says, else beside this module, in the repository or release
+that it stands in, and where the system's loader looks.
 """
 
 from __future__ import annotations

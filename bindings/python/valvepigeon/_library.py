@@ -11,6 +11,8 @@ from ctypes import (Structure, c_char_p, c_double, c_int32, c_size_t, c_uint16,
 from typing import Optional
 
 NAME = "libvalvepigeon.so"
+# With the version's first number, which moves when the structs do.
+LOADER_NAME = NAME + ".1"
 WORDS = 32
 
 
@@ -64,21 +66,20 @@ def found() -> Optional[pathlib.Path]:
 
 @functools.lru_cache(maxsize=None)
 def loaded() -> ctypes.PyDLL:
-    """The library, its functions declared. Where no file is found the system's
+    """The library, its functions declared. Where `found` has none the system's
     loader looks for it."""
     try:
         # CDLL would let other threads run during a call, and one of them could
         # change the bytes that are lent. A call is short.
-        library = ctypes.PyDLL(str(found() or NAME))
+        library = ctypes.PyDLL(str(found() or LOADER_NAME))
         for name, (result, arguments) in _FUNCTIONS.items():
             function = getattr(library, name)
             function.restype, function.argtypes = result, arguments
     except (OSError, AttributeError) as error:
         raise OSError(
             f"Valvepigeon's library cannot be loaded ({error}): run "
-            "./build-library in the repository, which makes it on x86-64 Linux "
-            "where a C compiler is, or set VALVEPIGEON_LIBRARY to the path of "
-            f"its {NAME}") from None
+            "./build-library in the repository, which makes it on x86-64 Linux, "
+            f"or set VALVEPIGEON_LIBRARY to the path of its {NAME}") from None
     return library
 
 
