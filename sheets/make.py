@@ -86,19 +86,23 @@ def written(folder, list_name, sheets, more):
 
 
 def tell(folder, sheets, all_printed, all_errors):
-    """A line for each formula as it was understood, and what else to know."""
-    for printed, errors in zip(all_printed, all_errors):
-        counts = "".join(f", {len(part)} numbers" for part in printed.parts)
-        off = "" if errors is None else (
-            f", off {printed.function} by {rounded_up(errors.answer)} steps")
-        print(f"{printed.sheet}.sheet {printed.formula.number}: "
-              f"{printed.kind} on {printed.interval}{counts}{off}")
+    """What else to know, and a line for each formula as it was understood."""
     for name in left_over(folder, sheets):
         print(f"{folder / name}: not of this text; left as it is",
               file=sys.stderr)
     if f"{EVERYTHING}.sheet" in sheets and len(all_printed) > MOST_FORMULAS:
         print(f"{EVERYTHING}.sheet: only the first {MOST_FORMULAS} formulas",
               file=sys.stderr)
+    for printed, errors in zip(all_printed, all_errors):
+        line = (f"{printed.sheet}.sheet {printed.formula.number}: "
+                f"{printed.kind} on {printed.interval}")
+        if printed.parts:
+            counts = [str(len(part)) for part in printed.parts]
+            line += f", numbers {' and '.join(counts)}"
+        if errors:
+            line += (f", off {printed.function} by "
+                     f"{rounded_up(errors.answer)} steps")
+        print(line)
 
 
 def make(path, folder, all_printed, all_errors, more):
@@ -172,6 +176,8 @@ def main(words):
         lines = wrong.args
     except OSError as error:
         lines = [f"{error.filename or 'standard output'}: {error.strerror}"]
+    except KeyboardInterrupt:
+        return 130
     print(*lines, sep="\n", file=sys.stderr)
     return 1
 

@@ -4,7 +4,9 @@ Every part of the text is kept with the line that it stands on, so that a fault
 can be told with its line.
 """
 
+from bisect import bisect_right
 from codecs import BOM_UTF8
+from itertools import accumulate
 from typing import NamedTuple
 
 NAMES = [
@@ -36,18 +38,18 @@ class Faults(list):
 class Field:
     """The text after a name, and the lines that it stands on."""
 
-    def __init__(self, line, text):
-        self.line = line  # that of the name
-        self.text = text
-        self.starts = [(0, line)]  # where in the text each line begins
-
-    def go_on(self, line, text):
-        self.starts.append((len(self.text) + 1 if self.text else 0, line))
-        self.text = f"{self.text} {text}".strip()
+    def __init__(self, pieces):
+        """Each piece is the number of a line and what stands on it."""
+        self.line = pieces[0][0]  # that of the name
+        self.lines = [line for line, text in pieces if text]
+        texts = [text for _, text in pieces if text]
+        self.starts = list(accumulate((len(text) + 1 for text in texts),
+                                      initial=0))
+        self.text = " ".join(texts)
 
     def line_at(self, offset):
         """The line of the character at this offset of the text."""
-        return [line for start, line in self.starts if start <= offset][-1]
+        return self.lines[bisect_right(self.starts, offset) - 1]
 
 
 class Paragraph(NamedTuple):
@@ -92,17 +94,17 @@ def runs_of_lines(text, faults):
         yield run
 
 
-def go_on(field, number, text):
-    """Takes an indented line into the field above it."""
+def go_on(pieces, number, text):
+    """Takes an indented line to what stands above it."""
     name = text.partition(":")[0].strip()
-    if field is None or (":" in text and name.lower() in NAMES):
+    if pieces is None or (":" in text and name.lower() in NAMES):
         raise Fault(number, "a blank before a name: only a line that goes on "
                     f"from the one above is indented, not {shown(text)}")
-    field.go_on(number, text)
+    pieces.append((number, text))
 
 
-def named(number, line, fields):
-    """The name at the start of a line, and its field."""
+def named(number, line, found):
+    """The name at the start of a line, and its text."""
     name, colon, text = line.partition(":")
     if not colon:
         raise Fault(number, f"no name and colon before {shown(line)}; a line "
@@ -110,24 +112,26 @@ def named(number, line, fields):
     if name not in NAMES:
         raise Fault(number, f"unknown name {shown(name)}: the names are "
                     + ", ".join(NAMES))
-    if name in fields:
+    if name in found:
         raise Fault(number, f"{name} twice in a formula, first in line "
-                    f"{fields[name].line}; an empty line parts two formulas")
-    return name, Field(number, text.strip())
+                    f"{found[name][0][0]}; an empty line parts two formulas")
+    return name, text.strip()
 
 
 def fields_of(run, faults):
     """The fields of a paragraph's lines, by their names."""
-    fields, field = {}, None
+    found, pieces = {}, None
     for number, line in run:
         if line[0].isspace():
-            faults.attempt(go_on, field, number, line.strip())
+            faults.attempt(go_on, pieces, number, line.strip())
             continue
-        found = faults.attempt(named, number, line, fields)
-        field = Field(number, "")  # takes what goes on from a faulty line
-        if found:
-            name, field = found
-            fields[name] = field
+        pieces = []  # after a faulty line, for what goes on from it
+        right = faults.attempt(named, number, line, found)
+        if right:
+            name, text = right
+            pieces.append((number, text))
+            found[name] = pieces
+    fields = {name: Field(pieces) for name, pieces in found.items()}
     for name, field in fields.items():
         if not field.text:
             faults.append(Fault(field.line, f"nothing stands after {name}"))

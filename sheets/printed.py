@@ -84,19 +84,19 @@ def mode_of(field):
     return whole_of(field, 2)
 
 
-def one_of(field, known, what):
+def one_of(field, what, known):
     if field.text not in known:
-        raise Fault(field.line, f"unknown {what} {shown(field.text)}: there "
-                    f"are {', '.join(known)}")
+        raise Fault(field.line, f"unknown {what} {shown(field.text)}: those "
+                    f"known are {', '.join(known)}")
     return field.text
 
 
 def kind_of(field):
-    return one_of(field, KINDS, "kind")
+    return one_of(field, "kind", KINDS)
 
 
 def function_of(field):
-    return one_of(field, FUNCTIONS, "function")
+    return one_of(field, "function", FUNCTIONS)
 
 
 def bound_of(field):
@@ -129,16 +129,18 @@ READERS = {
 
 def name_faults(paragraph, kind, also_needed):
     """The names that are missing, and those that the kind has not."""
+    fields = paragraph.fields
     own = list(PARTS.get(kind, []))
     if kind == "fraction":
         own.append("mode")
-    for name in EVERY_FORMULA + own + also_needed:
-        if name not in paragraph.fields:
-            needs = kind if name in own else "formula"
-            yield Fault(paragraph.line, f"{name} is missing: a {needs} has one")
+    missing = [name for name in EVERY_FORMULA + own + also_needed
+               if name not in fields]
+    if missing:
+        yield Fault(paragraph.line, f"missing: {', '.join(missing)} (an empty "
+                    "line ends a formula)")
     for name in SOME_KINDS:
-        if kind and name in paragraph.fields and name not in own:
-            yield Fault(paragraph.fields[name].line, f"a {kind} has no {name}")
+        if kind and name in fields and name not in own:
+            yield Fault(fields[name].line, f"a {kind} has no {name}")
 
 
 def counts_of(kind, fields, parts):
