@@ -176,6 +176,7 @@ def main(words):
         lines = wrong.args
     except OSError as error:
         lines = [f"{error.filename or 'standard output'}: {error.strerror}"]
+        sys.stdout = None  # so that the end of Python does not try again
     except KeyboardInterrupt:
         return 130
     print(*lines, sep="\n", file=sys.stderr)

@@ -4,10 +4,9 @@ set -u
 cd "$(dirname "$0")/.." || exit 2
 . tests/lib.sh
 root=$PWD
-room=$(mktemp -d)
+room=$(mktemp -d) || exit 2
 trap 'rm -rf "$room"' EXIT
-mkdir "$room/work"
-cd "$room/work" || exit 2
+mkdir "$room/work" && cd "$room/work" || exit 2
 
 text() { # SHEET COEFFICIENTS
     printf 'sheet: %s\nnumber: 7\nkind: polynomial\ninterval: [-1, 1]\ncoefficients: %s\n' "$1" "$2"
@@ -54,7 +53,7 @@ text theirs '1, 1' >theirs.txt
 refused desk 'desk/theirs.sheet: this program did not make it' theirs.txt --out desk
 rm desk/theirs.sheet
 
-# Its own sheet is replaced; one that was changed since, a link, a folder, or the sheet of another text is not.
+# Its own sheet is replaced; the sheet of another text, a link, a folder, or what was changed since is not.
 cp desk/desk.sheet first
 gives 0 '' mine.txt --out desk
 same desk/desk.sheet first
@@ -63,8 +62,7 @@ gives 0 '' mine.txt --out desk
 if cmp -s desk/desk.sheet first; then fail 'the changed text gives the old sheet'; else pass; fi
 text desk '1, 1' >other.txt
 refused desk 'desk/desk.sheet: this program did not make it' other.txt --out desk
-printf 'x' >>desk/desk.sheet
-refused desk 'desk/desk.sheet: this program did not make it' mine.txt --out desk
+text desk '1, 1, 1/8' >mine.txt
 mv desk/desk.sheet moved
 ln -s ../moved desk/desk.sheet
 refused . 'desk/desk.sheet: this program did not make it' mine.txt --out desk
@@ -72,6 +70,10 @@ rm desk/desk.sheet
 mkdir desk/desk.sheet
 refused desk 'desk/desk.sheet: this program did not make it' mine.txt --out desk
 rmdir desk/desk.sheet
+mv moved desk/desk.sheet
+printf 'x' >>desk/desk.sheet
+refused desk 'desk/desk.sheet: this program did not make it' mine.txt --out desk
+rm desk/desk.sheet
 
 # A sheet that is no longer in the text is told and left, and is still known when it comes back.
 gives 0 '' mine.txt --out desk
@@ -93,7 +95,7 @@ text fresh '1' >mine.txt
 before=$(state desk)
 said=$(ulimit -f 0; python3 -B "$root/sheets/make.py" mine.txt --out desk 2>&1)
 if [ $? -eq 1 ] && [ "$said" = 'desk: cannot be written: File too large' ] && [ "$before" = "$(state desk)" ]; then pass; else fail "a full disk: $said"; fi
-said=$(python3 -B "$root/sheets/make.py" mine.txt --out fresh 2>&1 >/dev/full)
+said=$(env -u PYTHONUNBUFFERED python3 -B "$root/sheets/make.py" mine.txt --out fresh 2>&1 >/dev/full)
 if [ $? -eq 1 ] && [ "$said" = 'standard output: No space left on device' ]; then pass; else fail "no room for what is told: $said"; fi
 
 # Calls.

@@ -258,6 +258,14 @@ class Tally:
             print(f"FAILED: {what}: {instead}")
 
 
+def status_of(words):
+    """The status of a call, or the exception that it should not raise."""
+    try:
+        return make.main(words)
+    except Exception as exception:
+        return exception
+
+
 class Made:
     """What became of a text: status, lines on standard error, files."""
 
@@ -267,11 +275,13 @@ class Made:
             text, folder = Path(room, "mine.txt"), Path(room, "out")
             text.write_bytes(content)
             with redirect_stdout(said), redirect_stderr(told):
-                self.status = make.main([str(text), "--out", str(folder)])
+                self.status = status_of([str(text), "--out", str(folder)])
             self.files = {path.name: path.read_bytes()
                           for path in folder.glob("*")}
             left = {path.name for path in Path(room).iterdir()}
         self.told = told.getvalue().replace(f"{text}:", "").splitlines()
+        if self.status not in (0, 1):
+            self.told.append(repr(self.status))
         self.nothing = left == {"mine.txt"} and not said.getvalue()
 
     def says(self, expected):
