@@ -20,7 +20,7 @@ from argparse import SUPPRESS, ArgumentParser, RawDescriptionHelpFormatter
 from pathlib import Path
 
 HERE = Path(__file__).resolve().parent
-sys.path.append(str(HERE.parent / "oracle"))
+sys.path.insert(1, str(HERE.parent / "oracle"))
 
 from errors import NoValue, measure
 from folder import Taken, left_over, put_sheets

@@ -84,19 +84,19 @@ def mode_of(field):
     return whole_of(field, 2)
 
 
-def one_of(field, what, known):
-    if field.text not in known:
-        raise Fault(field.line, f"unknown {what} {shown(field.text)}: those "
-                    f"known are {', '.join(known)}")
+def kind_of(field):
+    if field.text not in KINDS:
+        raise Fault(field.line, f"unknown kind {shown(field.text)}: the kinds "
+                    f"are {', '.join(KINDS)}")
     return field.text
 
 
-def kind_of(field):
-    return one_of(field, "kind", KINDS)
-
-
 def function_of(field):
-    return one_of(field, "function", FUNCTIONS)
+    if field.text not in FUNCTIONS:
+        raise Fault(field.line, f"unknown function {shown(field.text)}: leave "
+                    "the line out, if it is none of "
+                    f"{', '.join(FUNCTIONS)}")
+    return field.text
 
 
 def bound_of(field):
@@ -150,14 +150,16 @@ def counts_of(kind, fields, parts):
     if kind == "fraction":
         depth, rest = divmod(counts[0] - 1, 2)
         if rest or depth not in shape.p:
-            raise Fault(fields["coefficients"].line, f"{counts[0]} numbers: a "
-                        "fraction has b0 and then a pair of a and b for each "
-                        f"depth, {shape.p[0]} to {shape.p[-1]}")
+            raise Fault(fields["coefficients"].line, "a fraction has b0, then "
+                        "a pair of a and b for each depth, to a depth of "
+                        f"{shape.p[0]} to {shape.p[-1]}; numbers here: "
+                        f"{counts[0]}")
         return depth, 0
     for name, count, allowed in zip(PARTS[kind], counts, (shape.p, shape.q)):
         if count not in allowed:
-            raise Fault(fields[name].line, f"{count} numbers: the {name} of a "
-                        f"{kind} are {allowed[0]} to {allowed[-1]}")
+            raise Fault(fields[name].line, f"the line {name} of a {kind} has "
+                        f"{allowed[0]} to {allowed[-1]} numbers; numbers "
+                        f"here: {count}")
     return (counts + [0, 0])[:2]
 
 

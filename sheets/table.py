@@ -8,7 +8,7 @@ COLUMNS = [
     "sheet", "no.", "function", "kind", "interval", "source",
     "printed bound", "own error", "bound kept", "measured error"]
 MEASURED = re.compile(  # the last four of them
-    r" \| (\S+) \| ([0-9]+\.[0-9]{2}) \| (yes|no|–) \| ([0-9]+\.[0-9]{2}) \|$",
+    r" \| (\S+) \| ([0-9]+\.[0-9]+) \| (yes|no|–) \| ([0-9]+\.[0-9]+) \|$",
     re.MULTILINE)
 
 
