@@ -20,7 +20,7 @@ state() { # FOLDER; every file below it with its bytes
 gives() { # STATUS WORDS ARGUMENT...; WORDS stand on standard error, which is empty where they are
     local status=$1 words=$2 got
     shift 2
-    python3 -B "${program:-$root/sheets/make.py}" "$@" >../out 2>../err
+    python3 -BS "${program:-$root/sheets/make.py}" "$@" >../out 2>../err
     got=$?
     if [ "$got" -eq "$status" ] && ! grep -q Traceback ../err && if [ -n "$words" ]; then grep -qF -- "$words" ../err; else [ ! -s ../err ]; fi; then
         pass
