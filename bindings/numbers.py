@@ -32,11 +32,11 @@ python = vars(valvepigeon)
 faults = [f"VP_{name} is {value}; Python has {python.get(name)}, Rust has "
           f"{rust.get(name)}" for name, value in header.items()
           if not value == python.get(name) == rust.get(name)]
-if len(header) < 4:
+if len(header) < 20:
     faults.append(f"{HEADER} names {len(header)} numbers")
 versions = [version for path, pattern in VERSIONS.items()
             for version in stated(path, pattern)]
-if len(set(versions)) != 1:
+if len(versions) != 3 or len(set(versions)) != 1:
     faults.append(f"versions {versions}")
 if _library.LOADER_NAME != _library.NAME + "." + versions[0].split(".")[0]:
     faults.append(f"{_library.LOADER_NAME} is not that of {versions[0]}")

@@ -12,7 +12,6 @@ import unittest
 from array import array
 
 import valvepigeon as vp
-from valvepigeon import _library
 
 ONE = 16777216
 SHEET = bytes.fromhex(
@@ -236,8 +235,6 @@ class Refusals(Case):
             self.assertEqual(vars(other), vars(refused))
             self.assertEqual(str(other), str(refused))
 
-    @unittest.skipUnless(hasattr(_library.loaded(), "vp_message"),
-                         "the library has no vp_message")
     def test_message_of_the_library(self):
         with self.assertRaises(vp.Refused) as raised:
             vp.count(b"")

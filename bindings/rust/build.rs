@@ -42,10 +42,4 @@ fn main() {
     println!("cargo:rerun-if-changed={}", folder.join(ARCHIVE).display());
     println!("cargo:rustc-link-search=native={}", folder.display());
     println!("cargo:rustc-link-lib=static=valvepigeon");
-
-    // Until vp_message is in every archive.
-    println!("cargo:rustc-check-cfg=cfg(has_message)");
-    if std::fs::read(folder.join(ARCHIVE)).is_ok_and(|bytes| bytes.windows(10).any(|part| part == b"vp_message")) {
-        println!("cargo:rustc-cfg=has_message");
-    }
 }

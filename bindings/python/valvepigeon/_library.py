@@ -47,6 +47,7 @@ _FUNCTIONS = {
     "vp_interval": (_Ends, _BYTES + [c_uint16]),
     "vp_write_record": (_Written, [FieldsStruct] + _BYTES),
     "vp_write_sheet": (_Written, _BYTES + _BYTES),
+    "vp_message": (c_char_p, [c_uint32]),
 }
 
 
@@ -85,8 +86,4 @@ def loaded() -> ctypes.PyDLL:
 
 def message(refused: int) -> str:
     """What is wrong and what to do, in a sentence."""
-    if not hasattr(loaded(), "vp_message"):
-        return ""
-    function = loaded().vp_message
-    function.restype, function.argtypes = c_char_p, [c_uint32]
-    return function(refused).decode()
+    return loaded().vp_message(refused).decode()

@@ -83,17 +83,10 @@ pub struct Refusal {
 
 impl Refusal {
     /// What is wrong and what to do, in a sentence.
-    #[cfg(has_message)]
     pub fn message(&self) -> &'static str {
         // The library gives each number a text of its own that stays, and ends in a zero byte.
         let text = unsafe { std::ffi::CStr::from_ptr(raw::vp_message(self.number)) };
         text.to_str().unwrap_or_default()
-    }
-
-    /// Nothing yet: the library that is linked has no sentences.
-    #[cfg(not(has_message))]
-    pub fn message(&self) -> &'static str {
-        ""
     }
 }
 

@@ -75,6 +75,5 @@ unsafe extern "C" {
     pub fn vp_interval(sheet: *const u8, length: usize, number: u16) -> Ends;
     pub fn vp_write_record(fields: Fields, out: *mut u8, room: usize) -> Written;
     pub fn vp_write_sheet(run: *const u8, run_length: usize, out: *mut u8, room: usize) -> Written;
-    #[cfg(has_message)]
     pub safe fn vp_message(refused: u32) -> *const std::ffi::c_char;
 }

@@ -62,5 +62,6 @@ fn writes_a_sheet() {
 #[test]
 fn says_what_to_do() {
     let error: Box<dyn std::error::Error> = Box::new(count(&SHEET[..31]).unwrap_err());
-    assert!(error.to_string().starts_with("refused 1 at 24: "));
+    let said = error.to_string();
+    assert!(said.starts_with("refused 1 at 24: ") && said.ends_with('.'), "{said}");
 }
