@@ -7,9 +7,9 @@ from math import ceil, floor
 from formulas import admission
 from number import ONE
 
-WHY = {
-    7: "a number on the way might leave ±128",
-    8: "a divisor might reach 0",
+WHY = {  # as the library has it; tests/words.sh holds the two together
+    7: "the word range may be left on the way to an answer",
+    8: "the divisor may reach 0",
 }
 PLACES = 8  # decimal places that tell one word from the next
 

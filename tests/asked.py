@@ -16,14 +16,13 @@ ROOT = Path(__file__).resolve().parent.parent
 sys.path.append(str(ROOT / "oracle"))
 
 from evaluation import evaluate
-from formulas import FRACTION, POLYNOMIAL, RATIONAL, Formula
+from formulas import FRACTION, POLYNOMIAL, RATIONAL
+from listings import NAMES, polynomial, sheet
 from number import M, ONE
 from refusal import Refused
-from sheet import END, START, formula_of, read
-from writing import record_of, start_or_end
+from sheet import formula_of, read
 
 HALF_STEP = Fraction(1, 2 * ONE)
-NAMES = {POLYNOMIAL: "polynomial", RATIONAL: "rational", FRACTION: "fraction"}
 
 
 def decimal(value):
@@ -66,14 +65,14 @@ def fields(formula, as_words):
         counts = names = []
     assert len(names) == len(f.words)
     ends = f"{shown(f.lo, as_words)} {shown(f.hi, as_words)}"
-    return [f"number {f.number}", f"kind {NAMES.get(f.kind, 'root')}",
+    return [f"number {f.number}", f"kind {NAMES[f.kind]}",
             f"interval {ends}", *counts,
             *(f"{name} {shown(word, as_words)}"
               for name, word in zip(names, f.words))]
 
 
 # The formula x on all words, which gives back what its argument was taken for.
-ITSELF = Formula(POLYNOMIAL, 1, -M, M, 2, 0, 0, (0, ONE))
+ITSELF = sheet(polynomial(1, -M, M, 0, ONE))
 
 TYPED = [
     "0", "-0", "+0.0", "1", "-1", "+1", "0.5", ".5", "5.", "-.25", "00127",
@@ -92,8 +91,7 @@ TYPED = [
 
 def cases(folder):
     itself = folder / "it self.sheet"
-    itself.write_bytes(
-        start_or_end(START, 1) + record_of(ITSELF) + start_or_end(END, 1))
+    itself.write_bytes(ITSELF)
     yield "typed", itself, 1, TYPED, False
     yield "typed-words", itself, 1, TYPED, True
     ready = ROOT / "sheets" / "all.sheet"

@@ -9,19 +9,6 @@ trap 'rm -rf "$room"' EXIT
 export PYTHONDONTWRITEBYTECODE=1 PIP_CONFIG_FILE=/dev/null CARGO_TARGET_DIR=$room/cargo RUSTFLAGS=-Dwarnings
 unset VALVEPIGEON_LIBRARY VALVEPIGEON_LIBRARY_DIR
 
-right() { # WHAT COMMAND...
-    local what=$1
-    shift
-    if "$@" >"$room/log" 2>&1; then pass; else tail -n 20 "$room/log"; fail "$what"; fi
-}
-
-# The command fails, and says this.
-wrong() { # WHAT WORDS COMMAND...
-    local what=$1 words=$2
-    shift 2
-    if ! "$@" >"$room/log" 2>&1 && grep -qF -- "$words" "$room/log"; then pass; else tail -n 20 "$room/log"; fail "$what"; fi
-}
-
 here() { command -v "$@" >"$room/where"; } # PROGRAM...: one of them is on the path
 
 # ---- structs and numbers
@@ -41,8 +28,8 @@ rust_layout() {
 }
 
 laid_out python python3 bindings/python/layout.py
-right 'numbers and version' env PYTHONPATH=bindings/python python3 bindings/numbers.py
-wrong 'bindings/python without the library' 'run ./build-library' \
+right 'numbers and version' env PYTHONPATH=bindings/python python3 tests/same_numbers.py
+wrong 'bindings/python without the library' 1 'run ./build-library' \
     env PYTHONPATH=bindings/python VALVEPIGEON_LIBRARY="$room/none.so" python3 -c 'import valvepigeon; valvepigeon.count(b"")'
 if here rustc && here cc; then
     laid_out rust rust_layout
@@ -93,7 +80,7 @@ call_rust() {
     else
         echo 'skipped: bindings/rust by pkg-config, which is not here'
     fi
-    VALVEPIGEON_LIBRARY_DIR=$room/none wrong 'bindings/rust without the library' 'run ./build-library' cargo_in bindings/rust build
+    VALVEPIGEON_LIBRARY_DIR=$room/none wrong 'bindings/rust without the library' 101 'run ./build-library' cargo_in bindings/rust build
 }
 
 if [ "$(uname -m)" = x86_64 ]; then

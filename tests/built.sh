@@ -6,9 +6,8 @@ cd "$(dirname "$0")/.." || exit 2
 . tests/lib.sh
 room=$(mktemp -d)
 trap 'chmod -R u+w "$room" && rm -rf "$room"' EXIT
-./build-library >"$room/log" 2>&1 || { tail -n 5 "$room/log"; fail './build-library'; conclude; exit 1; }
-listed=$(printf 'formulas 1\n1 root 0 33554432')
-printf '\10\0\0\0\1\0\1\0\20\0\0\0\23\0\1\0\0\0\0\0\0\0\0\2\10\0\0\0\377\377\1\0' >"$room/sheet"
+need_library
+paper_sheet >"$room/sheet"
 copy="$room/a copy"
 mkdir "$copy" "$room/stand-in" "$room/notes"
 cp -R crates crates.txt command include library scripts valvepigeon build-library "$copy"
@@ -36,16 +35,12 @@ path=$room/stand-in:$PATH    # what the command finds its tools by
 
 calls() { cat "$NOTES/calls" 2>/dev/null | tr '\n' ' '; }
 
-is() { # WHAT GOT EXPECTED
-    if [ "$2" = "$3" ]; then pass; else fail "$1: '$2' in place of '$3'"; fi
-}
-
 # Lists the sheet: it is listed, or with a text it is told why not, with status 1.
 lists() { # WHAT [TOLD]
     local got status
     got=$(env PATH="$path" "$copy/valvepigeon" list "$room/sheet" 2>"$room/told")
     status=$?
-    if [ $# -eq 1 ]; then is "$1" "$status $got" "0 $listed"; else is "$1" "$status $got" '1 '; fi
+    if [ $# -eq 1 ]; then is "$1" "$status $got" "0 $paper_listing"; else is "$1" "$status $got" '1 '; fi
     if [ $# -eq 1 ] || grep -qF -- "$2" "$room/told"; then pass; else fail "$1: told $(tail -n 3 "$room/told")"; fi
 }
 
@@ -56,7 +51,7 @@ at_once() { # CALLS
         { env PATH="$path" "$copy/valvepigeon" list "$room/sheet" || echo "status $?"; } >"$room/out.$call" 2>"$room/told.$call" &
     done
     wait
-    for call in $(seq "$1"); do is "call $call of $1" "$(cat "$room/out.$call")" "$listed"; done
+    for call in $(seq "$1"); do is "call $call of $1" "$(cat "$room/out.$call")" "$paper_listing"; done
     is "$1 calls at once: what rt was called for" "$(calls)" 'check staticlib '
     is "$1 calls at once: calls of rt that overlap" "$(cat "$NOTES/overlaps" 2>&1)" "cat: $NOTES/overlaps: No such file or directory"
 }
@@ -99,15 +94,13 @@ on_path() { # NAME...: puts tools on it
     for name; do ln -sf "$(type -P "$name")" "$room/tools/"; done
 }
 on_path bash env cat cmp find mkdir readlink sed sha256sum sort uname xargs
-as_nobody=()
-if [ "$(id -u)" = 0 ]; then as_nobody=(setpriv --reuid=65534 --regid=65534 --clear-groups); fi
 if [ "$(uname -m)" != x86_64 ]; then
     echo "skipped: the command without the toolchain, this is $(uname -m)"
-elif ! "${as_nobody[@]}" true; then
+elif ! without_rights true; then
     echo 'skipped: the command in a folder that may not be written to, as root cannot be nobody here'
 else
     chmod -R a-w,a+rX "$copy" && chmod a+rx "$room"
-    is 'without the toolchain' "$("${as_nobody[@]}" env PATH="$room/tools" "$copy/valvepigeon" list <"$room/sheet" 2>&1)" "$listed"
+    is 'without the toolchain' "$(without_rights env PATH="$room/tools" "$copy/valvepigeon" list <"$room/sheet" 2>&1)" "$paper_listing"
     chmod -R u+w "$copy"
 fi
 

@@ -7,7 +7,7 @@ room=$(mktemp -d)
 trap 'rm -rf "$room"' EXIT
 root=$PWD
 command=$root/valvepigeon
-./build-library >"$room/log" 2>&1 || { tail -n 5 "$room/log"; fail './build-library'; conclude; exit 1; }
+need_library
 
 # Runs the command. Its output is exactly this text, its status this one, and standard error has this text, or nothing.
 gives() { # STATUS OUTPUT TOLD WORD...
@@ -29,12 +29,12 @@ told() { # TEXT
 # The paper's sheet, and what becomes of it; a listing's lines are the paper's.
 mkdir -p "$room/night line/deeper" "$room/empty"
 cd "$room/night line" || exit 2
-printf '\10\0\0\0\1\0\1\0\20\0\0\0\23\0\1\0\0\0\0\0\0\0\0\2\10\0\0\0\377\377\1\0' >good.sheet
+paper_sheet >good.sheet
 head -c 24 good.sheet >'cut short.sheet'
 { head -c 24 good.sheet && head -c 8 /dev/zero; } >deeper/zeros.sheet
 head -c 8193 /dev/zero >deeper/long
-listed=$'formulas 1\n1 root 0 33554432\n'
-wrong="see 'valvepigeon"
+listed=$paper_listing$'\n'
+see="see 'valvepigeon"
 
 # ---- list
 gives 0 "$listed" '' list good.sheet
@@ -54,8 +54,8 @@ gives 1 "good.sheet:
 $listed"$'deeper/long:\ntoo long\n' 'absent: unreadable' list good.sheet absent deeper/long
 cp good.sheet ./-dash.sheet
 gives 0 "$listed" '' list -- -dash.sheet
-gives 2 '' "$wrong list" list -dash.sheet
-gives 2 '' "$wrong list" list --loud good.sheet
+gives 2 '' "$see list" list -dash.sheet
+gives 2 '' "$see list" list --loud good.sheet
 
 # ---- check
 gives 0 'good.sheet: ok, 1 formula
@@ -86,17 +86,13 @@ gives 0 './-dash.sheet: ok, 1 formula
 mkdir "$room/half" "$room/half/locked"
 cp good.sheet "$room/half"
 chmod a+rx "$room" "$room/half" && chmod a= "$room/half/locked"
-as_nobody=()
-if [ "$(id -u)" = 0 ]; then as_nobody=(setpriv --reuid=65534 --regid=65534 --clear-groups); fi
-if "${as_nobody[@]}" test -x "$command"; then
-    said=$("${as_nobody[@]}" "$command" check "$room/half" 2>&1)
-    status=$?
-    if [ "$status" -eq 1 ] && [ "$(tail -n 1 <<<"$said")" = '2 checked: 1 ok, 0 refused, 0 too long, 1 unreadable' ]; then pass; else fail "check of a locked folder: $said"; fi
+if without_rights test -x "$command"; then
+    wrong 'check of a locked folder' 1 '2 checked: 1 ok, 0 refused, 0 too long, 1 unreadable' without_rights "$command" check "$room/half"
 else
     echo 'skipped: check of a locked folder, as root cannot be nobody here'
 fi
-gives 2 '' "$wrong check" check
-gives 2 '' "$wrong check" check --loud good.sheet
+gives 2 '' "$see check" check
+gives 2 '' "$see check" check --loud good.sheet
 
 # ---- ask; the root of 2 is the paper's
 gives 0 $'1.41421353816986083984375\n' '' ask good.sheet 1 2
@@ -108,10 +104,21 @@ gives 1 $'refused 11 at 0\n' 'refused 11 at 0: no formula has that number' ask g
 gives 1 $'refused 1 at 24\n' 'refused 1 at 24: the bytes stop' ask 'cut short.sheet' 1 0 1
 gives 1 $'too long\n' '8,192 bytes' ask deeper/long 1 0
 gives 1 '' 'absent: unreadable: No such file' ask absent 1 0
+gives 1 '' 'deeper: unreadable: Is a directory' ask deeper 1 0
 for bad in 1e3 1,5 0x10 nan inf '' - . w 1ww '1 ' --; do gives 2 '' 'ask' ask good.sheet 1 0 "$bad"; done
 for bad in 65536 -1 one 1.0 '' 100000; do gives 2 '' 'number' ask good.sheet "$bad" 0; done
 gives 2 '' 'is no option' ask good.sheet 1 --loud
-gives 2 '' "$wrong ask" ask good.sheet
+gives 2 '' "$see ask" ask good.sheet
+
+# ---- a name stays on one line, whatever it is
+odd=$'a: ok, 1 formula\n\e[1mb' shown='a: ok, 1 formula??[1mb'
+cp 'cut short.sheet' "$odd"
+gives 1 "$shown:"$'\nrefused 1 at 24\ngood.sheet:\n'"$listed" "valvepigeon: $shown: refused 1 at 24: " list "$odd" good.sheet
+gives 1 $'refused 1 at 24\n' "valvepigeon: $shown, formula 1: refused 1 at 24: " ask "$odd" 1 0
+gives 1 "${shown}c: unreadable: No such file or directory.
+1 checked: 0 ok, 0 refused, 0 too long, 1 unreadable
+" '' check "${odd}c"
+rm "$odd"
 
 # ---- what cannot be written
 full() { # WORD...
@@ -124,8 +131,8 @@ full check good.sheet
 full ask good.sheet 1 2
 
 # ---- wrong calls, and help, which is printed and nothing else
-gives 2 '' "$wrong --help" load good.sheet
-gives 2 '' "$wrong --help"
+gives 2 '' "$see --help" load good.sheet
+gives 2 '' "$see --help"
 for words in --help 'list --help' 'check --help' 'ask --help'; do
     # shellcheck disable=SC2086
     if "$command" $words >"$room/out" 2>"$room/err" && [ ! -s "$room/err" ] && grep -q '^usage: valvepigeon ' "$room/out"; then

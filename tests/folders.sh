@@ -130,13 +130,7 @@ same <(sed '/^## The formulas$/,$d' copy/sheets/README.md) <(sed '/^## The formu
 if [ "$(sed '1,/^## The formulas$/d' copy/sheets/README.md | grep -c '^| ')" -eq 2 ] && grep -q '^| sine | 7 | e^x | polynomial | \[-1, 1\] | none |' copy/sheets/README.md; then pass; else fail "README.md's table: $(tail -n 5 copy/sheets/README.md)"; fi
 
 # What sheets/README.md shows of a call: its text, what is printed, its fault, and the interval that is admitted.
-shown() { # TEXT; it stands in the page as a block
-    if python3 -B -c 'import sys; sys.exit("\n" + sys.argv[2] + "\n" not in open(sys.argv[1], encoding="utf-8").read())' "$root/sheets/README.md" "$(sed 's/^/    /' <<<"$1")"; then
-        pass
-    else
-        fail "sheets/README.md does not show: $1"
-    fi
-}
+shown() { page_shows "$root/sheets/README.md" "$1"; } # TEXT
 { echo '# e^x, to see how it goes'; text desk '1, 1, 1/2' | sed 's/^kind/function: e^x\n&/'; } >mine.txt
 shown "$(cat mine.txt)"
 gives 0 '' mine.txt --out shown

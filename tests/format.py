@@ -21,15 +21,13 @@ import number
 import questions
 from formulas import FRACTION, POLYNOMIAL, RATIONAL, Formula
 from formulas import ROOT as SQUARE_ROOT
+from listings import NAMES, listing
 from makers import sheet_of
 from number import M, ONE
-from refusal import Refused
-from sheet import END, read
+from sheet import END
 
-KINDS = {"polynomial": POLYNOMIAL, "rational": RATIONAL,
-         "fraction": FRACTION, "root": SQUARE_ROOT, "end": END}
-NAMES = {kind: name for name, kind in KINDS.items()}
-LONGEST_INPUT = 8192
+KINDS = {name: kind for kind, name in NAMES.items()}
+KINDS["end"] = END
 ENOUGH_ROOM = 200
 
 sheets = {}     # the page's sheets, by name
@@ -216,20 +214,9 @@ def each(lines, example):
             check(False, f"not understood: {line}")
 
 
-def listing(content):
-    if len(content) > LONGEST_INPUT:
-        return ["too long"]
-    try:
-        formulas = read(content)
-    except Refused as refusal:
-        return [str(refusal)]
-    return [f"formulas {len(formulas)}"] + [
-        f"{f.number} {NAMES[f.kind]} {f.lo} {f.hi}" for f in formulas]
-
-
 def list_block(name, lines):
     content = bytes_of(name)
-    check(listing(content) == lines, f"the listing of {name}")
+    check(listing(content).splitlines() == lines, f"the listing of {name}")
     listings.append((content, lines))
 
 

@@ -5,13 +5,7 @@ cd "$(dirname "$0")/.." || exit 2
 . tests/lib.sh
 room=$(mktemp -d)
 trap 'rm -rf "$room"' EXIT
-./build-library >"$room/log" 2>&1 || { tail -n 5 "$room/log"; fail './build-library'; conclude; exit 1; }
-
-right() { # WHAT COMMAND...
-    local what=$1
-    shift
-    if "$@" >"$room/log" 2>&1; then pass; else fail "$what: $(tail -n 5 "$room/log")"; fi
-}
+need_library
 
 right './release' ./release "$room/first"
 # a copy of what the second is made of, with other times and modes
@@ -24,8 +18,8 @@ mkdir -p "$room/copy/bindings/python/__pycache__" "$room/copy/bindings/rust/targ
 sleep 1    # a tar's times are in seconds
 find "$room/copy" -type f -exec touch -d 2001-02-03 {} + -exec chmod go= {} +
 right './release of the copy' env TZ=Asia/Tokyo LC_ALL=C.UTF-8 bash -c 'umask 077 && "$1" "$2"' bash "$room/copy/release" "$room/second"
-if cmp "$room"/first/*.tar "$room"/second/*.tar; then pass; else fail 'the two are not the same bytes'; fi
-if [ "$(ls "$room/first")" = "$(basename "$room"/first/*.tar)" ]; then pass; else fail "beside the tar: $(ls "$room/first")"; fi
+right 'the same bytes' cmp "$room"/first/*.tar "$room"/second/*.tar
+is 'what is made' "$(ls "$room/first")" "$(basename "$room"/first/*.tar)"
 
 mkdir "$room/unpacked"
 right 'unpacking' python3 -m tarfile -e "$room"/first/*.tar "$room/unpacked"
@@ -43,9 +37,7 @@ else
 fi
 
 cd "$OLDPWD" || exit 2
-./release --loud >"$room/log" 2>&1
-if [ $? -eq 2 ]; then pass; else fail './release --loud is no wrong call'; fi
+wrong './release --loud' 2 'usage: ./release' ./release --loud
 : >"$room/file"
-./release "$room/file" >"$room/log" 2>&1
-if [ $? -eq 1 ] && grep -q 'could not be made' "$room/log"; then pass; else fail './release where nothing can be written'; fi
+wrong './release where nothing can be written' 1 'could not be made' ./release "$room/file"
 conclude

@@ -8,13 +8,14 @@ import io
 import sys
 from contextlib import redirect_stderr, redirect_stdout
 from pathlib import Path
-from struct import pack
 from tempfile import TemporaryDirectory
 
 ROOT = Path(__file__).resolve().parent.parent
 sys.path.insert(0, str(ROOT / "sheets"))
 
 import make
+from listings import fraction, polynomial, rational, root, sheet
+from ready import Tally
 from sheet import read
 
 GOOD = """\
@@ -244,21 +245,6 @@ def with_line(number, instead):
     return "\n".join(lines) + "\n"
 
 
-class Tally:
-    """Counts what holds and tells what does not."""
-
-    def __init__(self):
-        self.passed = 0
-        self.failed = 0
-
-    def hold(self, what, holds, instead=""):
-        if holds:
-            self.passed += 1
-        else:
-            self.failed += 1
-            print(f"FAILED: {what}: {instead}")
-
-
 def status_of(words):
     """The status of a call, or the exception that it should not raise."""
     try:
@@ -302,56 +288,39 @@ def one_formula(kind, parts, interval):
 def check_faults(tally):
     for number, instead, line, words in FAULTS:
         made = Made(with_line(number, instead).encode())
-        tally.hold(f"{number} {instead!r:.60}", made.says([(line, words)]),
-                   made.told)
+        tally.hold(f"{number} {instead!r:.60}: {made.told}",
+                   made.says([(line, words)]))
     for content, expected in MORE_FAULTS:
         made = Made(content)
-        tally.hold(f"{content[:60]}", made.says(expected), made.told)
+        tally.hold(f"{content[:60]}: {made.told}", made.says(expected))
 
 
 def check_refusals(tally):
     for kind, parts, interval, refused, words in REFUSED:
         made = Made(one_formula(kind, parts, interval))
-        tally.hold(f"{kind} {parts} on {interval}",
-                   made.says([(4, refused)]) and words in made.told[0],
-                   made.told)
+        tally.hold(f"{kind} {parts} on {interval}: {made.told}",
+                   made.says([(4, refused)]) and words in made.told[0])
     for kind, parts, typed, steps in [
             ("polynomial", ["coefficients: 0, 64"], WIDE, 33554431),
             ("rational", ["numerator: 1", "divisor: 1, -1"],
              "[-0.99218745, 0.99218745]", 16646143)]:
         made = Made(one_formula(kind, parts, typed))
-        tally.hold(f"{kind} on {typed}", made.status == 0 and read(
-            made.files["one.sheet"])[0].hi == steps, made.told)
+        tally.hold(f"{kind} on {typed}: {made.told}", made.status == 0
+                   and read(made.files["one.sheet"])[0].hi == steps)
         wider = f"[0, {steps + 1}/16777216]"
         tally.hold(f"{kind} on {wider}",
                    Made(one_formula(kind, parts, wider)).status == 1)
-
-
-def record(kind, number, lo, hi, *rest):
-    return pack("<IHHii", 16 + len(b"".join(rest)), kind, number, lo, hi
-                ) + b"".join(rest)
-
-
-def words(*values):
-    return pack(f"<{len(values)}i", *values)
-
-
-def sheet(*records):
-    count = len(records)
-    return pack("<IHH", 8, 1, count) + b"".join(records) + pack(
-        "<IHH", 8, 0xFFFF, count)
 
 
 def expected_files():
     """The sheets of GOOD by the layout of paper 01."""
     one = 16777216
     records = [
-        record(0x10, 7, -one, one, words(one, one, one // 2)),
-        record(0x12, 8, -one, one, pack("<HH", 2, 2),
-               words(0, one, one, -one, 3 * one)),
-        record(0x11, 9, -one, one, pack("<HH", 3, 3), words(
-            12 * one, 6 * one, one, 12 * one, -6 * one, one)),
-        record(0x13, 10, 0, 2 * one),
+        polynomial(7, -one, one, one, one, one // 2),
+        fraction(8, -one, one, 2, 0, one, one, -one, 3 * one),
+        rational(9, -one, one, [12 * one, 6 * one, one],
+                 [12 * one, -6 * one, one]),
+        root(10, 0, 2 * one),
     ]
     return {"desk.sheet": sheet(*records[:2]),
             "other.sheet": sheet(*records[2:]), "all.sheet": sheet(*records)}
@@ -363,21 +332,21 @@ def check_good(tally):
     for content in GOOD.encode(), windows, GOOD.rstrip().encode():
         made = Made(content)
         sums = made.files.pop("mine.sha256", None)
-        tally.hold("the good text", made.status == 0 and not made.told
-                   and made.files == expected and sums, made.told)
+        tally.hold(f"the good text: {made.told}", made.status == 0
+                   and not made.told and made.files == expected and sums)
     for content in expected.values():
         tally.hold("a sheet is read", len(read(content)) in (2, 4))
     for interval, lo, hi in INTERVALS:
         made = Made(one_formula("polynomial", ["coefficients: 1"], interval))
         formula = read(made.files["one.sheet"])[0] if made.files else None
-        tally.hold(f"{interval}", formula and formula[2:4] == (lo, hi),
-                   made.told or formula)
+        tally.hold(f"{interval}: {made.told or formula}",
+                   formula and formula[2:4] == (lo, hi))
     for text, word in NUMBERS:
         made = Made(one_formula(
             "polynomial", [f"coefficients: {text}"], "[0, 1]"))
         formula = read(made.files["one.sheet"])[0] if made.files else None
-        tally.hold(f"{text}", formula and formula.words == (word,),
-                   made.told or formula)
+        tally.hold(f"{text}: {made.told or formula}",
+                   formula and formula.words == (word,))
 
 
 def check_cut(tally):
@@ -388,10 +357,10 @@ def check_cut(tally):
     for text in bad:
         made = Made(text.encode())
         lines = [line.partition(": ")[0] for line in made.told]
-        tally.hold(f"{text!r}", (
+        tally.hold(f"{text!r}: {made.told}", (
             made.status == 0 and "mine.sha256" in made.files if not lines else
             made.status == 1 and made.nothing
-            and all(line.isdigit() for line in lines)), made.told)
+            and all(line.isdigit() for line in lines)))
 
 
 def main():

@@ -4,13 +4,17 @@
 
 MESSAGES has a line for each number from 0 on, as vp_message gives it: what is
 wrong, a full stop, and what to do. The header says what is wrong beside each
-constant; the README's table says both. Prints each difference; the status is 0
-where there is none.
+constant, and sheets/make.py beside those that it gives; the README's table
+says both. Prints each difference; the status is 0 where there is none.
 """
 
 import re
 import sys
 from pathlib import Path
+
+sys.path += ["sheets", "oracle"]
+
+from width import WHY
 
 PAPER = range(1, 14)  # the refusals of document 01
 LIKE_A_WRONG_FORMULA = range(3, 9)
@@ -60,6 +64,8 @@ def main():
         hold(bool(damaged) == (number in LIKE_A_WRONG_FORMULA)
              and (damaged + advice).strip() in readme,
              f"what {number} says of damage, or the README below its table")
+        hold(WHY.get(number, wrong) == wrong,
+             f"sheets/width.py at {number}: {WHY.get(number)}")
 
 
 main()

@@ -1,7 +1,8 @@
 """Holds the bindings against include/valvepigeon.h: each number that it names
 has its name and value in both, and all of them say one version.
 
-Needs bindings/python on PYTHONPATH; run it from the repository's root.
+Needs bindings/python on PYTHONPATH; run it from the repository's root. Prints
+each difference; the status is 0 where there is none.
 """
 
 import re
