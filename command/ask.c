@@ -95,14 +95,15 @@ static void show_fields(const question *q, const vp_fields *f) {
 /* What is not answered is told on both outputs: as the listing says it, and explained. */
 static int unread(const question *q, const sheet_file *sheet) {
     if (sheet->reading == TOO_LONG) printf("too long\n");
-    fprintf(stderr, "valvepigeon: %s: ", called(q->words[0]));
+    print_name(stderr, "valvepigeon: ", q->words[0], ": ");
     explain_unread(stderr, sheet->reading, sheet->fault);
     return 1;
 }
 
 static int refused(const question *q, const char *argument, uint32_t number, uint64_t place) {
     printf("refused %u at %lu\n", number, (unsigned long)place);
-    fprintf(stderr, "valvepigeon: %s, formula %u", called(q->words[0]), q->number);
+    print_name(stderr, "valvepigeon: ", q->words[0], "");
+    fprintf(stderr, ", formula %u", q->number);
     if (argument) fprintf(stderr, " at %s", argument);
     fprintf(stderr, ": ");
     explain_refused(stderr, number, place);

@@ -1,5 +1,6 @@
 /* `check`: for each sheet a line that says whether it is accepted and, where not, why and what to do; then the counts. */
 #define _POSIX_C_SOURCE 200809L
+#include <errno.h>
 #include <stdlib.h>
 #include "sheet_file.h"
 #include "verbs.h"
@@ -8,12 +9,19 @@ typedef struct {
     unsigned long accepted, refused, too_long, unreadable;
 } tally;
 
+static void unread(const sheet_file *sheet) {
+    if (sheet->reading == UNREADABLE && sheet->fault == EISDIR)
+        printf("unreadable: a folder, with no *.sheet file below it that can be read.\n");
+    else
+        explain_unread(stdout, sheet->reading, sheet->fault);
+}
+
 static void check_one(const char *name, tally *counts) {
     static sheet_file sheet;
     read_sheet(&sheet, name);
-    printf("%s: ", called(name));
+    print_name(stdout, "", name, ": ");
     if (sheet.reading != READ) {
-        explain_unread(stdout, sheet.reading, sheet.fault);
+        unread(&sheet);
         ++*(sheet.reading == TOO_LONG ? &counts->too_long : &counts->unreadable);
         return;
     }

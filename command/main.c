@@ -10,7 +10,7 @@
 #include "verbs.h"
 
 static int explain(int count, char **words) {
-    fprintf(stderr, "valvepigeon: %s: ", called(words[0]));
+    print_name(stderr, "valvepigeon: ", words[0], ": ");
     if (count == 5) explain_refused(stderr, (uint32_t)strtoul(words[2], NULL, 10), strtoul(words[4], NULL, 10));
     else explain_unread(stderr, TOO_LONG, 0);
     return 1;

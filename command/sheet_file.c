@@ -17,13 +17,16 @@ void read_sheet(sheet_file *sheet, const char *name) {
     if (file && file != stdin) fclose(file);
 }
 
-const char *called(const char *name) { return strcmp(name, "-") == 0 ? "standard input" : name; }
+void print_name(FILE *to, const char *before, const char *name, const char *after) {
+    if (strcmp(name, "-") == 0) name = "standard input";
+    fprintf(to, "%s", before);
+    for (; *name; name++) fputc((unsigned char)*name < ' ' || *name == 127 ? '?' : *name, to);
+    fprintf(to, "%s", after);
+}
 
 void explain_unread(FILE *to, reading reading, int fault) {
     if (reading == TOO_LONG)
         fprintf(to, "too long: no sheet has more than 8,192 bytes. This is another file, or several in one: fetch it again.\n");
-    else if (fault == EISDIR)
-        fprintf(to, "unreadable: a folder, with no *.sheet file below it that can be read.\n");
     else
         fprintf(to, "unreadable: %s.\n", strerror(fault));
 }

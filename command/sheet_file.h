@@ -19,8 +19,8 @@ typedef struct {
 /* Reads the file of that name; "-" is standard input. */
 void read_sheet(sheet_file *sheet, const char *name);
 
-/* What a person calls the file. */
-const char *called(const char *name);
+/* Prints what a person calls the file, between two other texts. It stays on one line: '?' stands for a control character. */
+void print_name(FILE *to, const char *before, const char *name, const char *after);
 
 /* Each prints why there is no answer, and what to do, up to the end of a line. */
 void explain_unread(FILE *to, reading reading, int fault);

@@ -16,4 +16,5 @@ int printf(const char *, ...);
 int snprintf(char *, size_t, const char *, ...);
 int fprintf(FILE *, const char *, ...);
 int putchar(int);
+int fputc(int, FILE *);
 #endif
