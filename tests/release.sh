@@ -10,10 +10,11 @@ need_library
 right './release' ./release "$room/first"
 # a copy of what the second is made of, with other times and modes
 mkdir "$room/copy" "$room/copy/target"
-cp -R bindings command crates crates.txt include install library release scripts sheets valvepigeon "$room/copy"
+cp -R bindings command crates crates.txt include install library oracle release scripts sheets valvepigeon "$room/copy"
 cp -R target/command target/staticlib "$room/copy/target"
-mkdir -p "$room/copy/bindings/python/__pycache__" "$room/copy/bindings/rust/target"
+mkdir -p "$room/copy/bindings/python/__pycache__" "$room/copy/oracle/__pycache__" "$room/copy/bindings/rust/target"
 : >"$room/copy/bindings/python/__pycache__/left.pyc"
+: >"$room/copy/oracle/__pycache__/left.pyc"
 : >"$room/copy/bindings/rust/target/left"
 sleep 1    # a tar's times are in seconds
 find "$room/copy" -type f -exec touch -d 2001-02-03 {} + -exec chmod go= {} +
@@ -29,6 +30,9 @@ for file in README include/valvepigeon.h lib/libvalvepigeon.a lib/libvalvepigeon
     right "$file" test -e "$file"
 done
 right 'every sheet' diff <(cd "$OLDPWD/sheets" && sha256sum ./*.sheet) <(cd sheets && sha256sum ./*.sheet)
+right "the sheets' own checksums" bash -c 'cd sheets && sha256sum -c formulas.sha256'
+printf 'sheet: desk\nnumber: 7\nkind: root\ninterval: [0, 2]\n' >"$room/mine.txt"
+right 'the released maker of sheets' sheets/make.py "$room/mine.txt" --out "$room/mine"
 right 'every file but the checksums has one' diff <(find . -type f ! -name SHA256SUMS | LC_ALL=C sort) <(cut -c 67- SHA256SUMS)
 if [ "$(uname -m)" = x86_64 ]; then
     right 'the released command' env PATH=/usr/bin:/bin ./valvepigeon check sheets
