@@ -49,7 +49,7 @@ extern "C" {
 #define VP_RANGE_LEFT 7           /* the word range may be left on the way to an answer */
 #define VP_DIVISOR_ZERO 8         /* the divisor may reach 0 */
 #define VP_BYTES_AFTER_END 9      /* there are bytes after the end record */
-#define VP_ARGUMENT_OUTSIDE 10    /* the argument lies outside lo..hi, both ends inside */
+#define VP_ARGUMENT_OUTSIDE 10    /* the argument lies outside the interval lo..hi, to which both ends belong */
 #define VP_NO_SUCH_FORMULA 11     /* no formula has that number */
 #define VP_BUFFER_TOO_SHORT 12    /* the output buffer is too short */
 #define VP_NOT_FINITE 13          /* the double is infinite or not a number */

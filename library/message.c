@@ -28,8 +28,8 @@ static const char *const messages[] = {
                         "Narrow the interval, or correct the divisor." DAMAGED,
     [VP_BYTES_AFTER_END] = "there are bytes after the end record. "
                            "Two files were joined, or a longer one was overwritten: fetch the file again.",
-    [VP_ARGUMENT_OUTSIDE] = "the argument lies outside lo..hi, both ends inside. "
-                            "Ask inside the formula's interval, which a listing of the sheet shows.",
+    [VP_ARGUMENT_OUTSIDE] = "the argument lies outside the interval lo..hi, to which both ends belong. "
+                            "Ask inside it; a listing of the sheet shows it.",
     [VP_NO_SUCH_FORMULA] = "no formula has that number. "
                            "List the sheet to see its numbers.",
     [VP_BUFFER_TOO_SHORT] = "the output buffer is too short. "

@@ -1,6 +1,6 @@
 #!/usr/bin/env bash
-# The README's commands print what it shows: the listed sheet, the formula that is asked, and from a typed formula to its answers.
-# The answers there are the paper's.
+# The README's commands print what it shows: the listed sheet, the formula that is asked, and from a typed formula to its answers,
+# which are the paper's. What it and the other pages link to, and the folders that it names, are there.
 set -u
 cd "$(dirname "$0")/.." || exit 2
 . tests/lib.sh
@@ -24,4 +24,10 @@ cd "$room" || exit 2
 printf 'sheet: desk\nnumber: 7\nkind: polynomial\ninterval: [-1, 1]\ncoefficients: 1, 1, 1/2\n' >mine.txt
 shows 'cat mine.txt' 'sheets/make.py mine.txt --out desk' './valvepigeon ask desk/desk.sheet 7 0.5'
 right 'both ways to the sheet' cmp desk/desk.sheet "$root/target/desk.sheet"
+
+cd "$root" || exit 2
+for page in README.md CHANGELOG.md docs/*.md sheets/README.md; do
+    for to in $(grep -oP '\]\(\K[^)#]+' "$page"); do right "$page links to $to" test -e "$(dirname "$page")/$to"; done
+done
+for folder in $(grep -oP '^\|[^|]*\|' README.md | grep -oP '`\K[^`]+/(?=`)'); do right "README.md names $folder" test -d "$folder"; done
 conclude
