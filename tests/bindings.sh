@@ -10,6 +10,8 @@ export PYTHONDONTWRITEBYTECODE=1 PIP_CONFIG_FILE=/dev/null CARGO_TARGET_DIR=$roo
 unset VALVEPIGEON_LIBRARY VALVEPIGEON_LIBRARY_DIR
 
 here() { command -v "$@" >"$room/where"; } # PROGRAM...: one of them is on the path
+rust_version=$(rustc --version 2>"$room/where" | sed -n 's/^rustc 1[.]\([0-9]*\)[.].*/\1/p')
+rust_since() { here cc && [ "${rust_version:-0}" -ge "$1" ]; } # NUMBER: Rust 1.NUMBER or later is here, with a linker
 
 # ---- structs and numbers
 
@@ -31,11 +33,11 @@ laid_out python python3 bindings/python/layout.py
 right 'numbers and version' env PYTHONPATH=bindings/python python3 tests/same_numbers.py
 wrong 'bindings/python without the library' 1 'run ./build-library' \
     env PYTHONPATH=bindings/python VALVEPIGEON_LIBRARY="$room/none.so" python3 -c 'import valvepigeon; valvepigeon.count(b"")'
-if here rustc && here cc; then
-    laid_out rust rust_layout
+if rust_since 82; then laid_out rust rust_layout; else echo 'skipped: bindings/rust, no rustc from 1.82 on or no linker is here'; fi
+if rust_since 85; then
     right 'bindings/rust in edition 2024' rustc --edition 2024 -D warnings --crate-type lib --emit metadata -o "$room/lib.rmeta" bindings/rust/src/lib.rs
 else
-    echo 'skipped: bindings/rust, no rustc or no linker is here'
+    echo 'skipped: bindings/rust in edition 2024, no rustc from 1.85 on is here'
 fi
 
 # ---- calls
@@ -88,7 +90,7 @@ if [ "$(uname -m)" = x86_64 ]; then
     mkdir -p "$release/lib/pkgconfig" && cp target/staticlib/libvalvepigeon.* "$release/lib" && cp -R bindings "$release" && cp -R bindings "$alone"
     printf '%s\n' 'Name: valvepigeon' 'Description: for the test' 'Version: 1' >"$release/lib/pkgconfig/valvepigeon.pc"
     if [ -f target/staticlib/libvalvepigeon.so ]; then call_python; else echo 'skipped: the calls of bindings/python, no shared library is here'; fi
-    if here cargo && here cc; then call_rust; else echo 'skipped: the calls of bindings/rust, no cargo or no linker is here'; fi
+    if here cargo && rust_since 82; then call_rust; else echo 'skipped: the calls of bindings/rust, no cargo from 1.82 on or no linker is here'; fi
 else
     echo "skipped: the calls of bindings/python and bindings/rust, the library is for x86-64 and this is $(uname -m)"
 fi

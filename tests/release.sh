@@ -1,15 +1,15 @@
 #!/usr/bin/env bash
-# ./release: twice the same bytes, whatever the hour, the umask and what lies about; and what is unpacked works.
+# ./release: twice the same bytes, whatever the hour, the umask, the user and what lies about; and what is unpacked works.
 set -u
 cd "$(dirname "$0")/.." || exit 2
 . tests/lib.sh
 room=$(mktemp -d)
-trap 'rm -rf "$room"' EXIT
+trap 'chmod -R u+w "$room" && rm -rf "$room"' EXIT
 need_library
 
 right './release' ./release "$room/first"
-# a copy of what the second is made of, with other times and modes
-mkdir "$room/copy" "$room/copy/target"
+# a copy of what the second is made of, with other times, which may not be written to; somebody else makes it
+mkdir "$room/copy" "$room/copy/target" "$room/second" "$room/temporary"
 cp -R bindings command crates crates.txt include install library oracle release scripts sheets valvepigeon "$room/copy"
 cp -R target/command target/staticlib "$room/copy/target"
 mkdir -p "$room/copy/bindings/python/__pycache__" "$room/copy/oracle/__pycache__" "$room/copy/bindings/rust/target"
@@ -17,8 +17,12 @@ mkdir -p "$room/copy/bindings/python/__pycache__" "$room/copy/oracle/__pycache__
 : >"$room/copy/oracle/__pycache__/left.pyc"
 : >"$room/copy/bindings/rust/target/left"
 sleep 1    # a tar's times are in seconds
-find "$room/copy" -type f -exec touch -d 2001-02-03 {} + -exec chmod go= {} +
-right './release of the copy' env TZ=Asia/Tokyo LC_ALL=C.UTF-8 bash -c 'umask 077 && "$1" "$2"' bash "$room/copy/release" "$room/second"
+find "$room/copy" -type f -exec touch -d 2001-02-03 {} +
+chmod -R a-w,a+rX "$room/copy" && chmod a+rx "$room" && chmod a+rwx "$room/second" "$room/temporary"
+somebody=without_rights
+without_rights test -x "$room/copy/release" || { echo 'skipped: a release by somebody else, whom root cannot be here'; somebody=env; }
+right './release of the copy' "$somebody" env TMPDIR="$room/temporary" TZ=Asia/Tokyo LC_ALL=C.UTF-8 bash -c 'umask 077 && "$1" "$2"' bash "$room/copy/release" "$room/second"
+is 'what it leaves behind' "$(ls "$room/temporary")" ''
 right 'the same bytes' cmp "$room"/first/*.tar "$room"/second/*.tar
 is 'what is made' "$(ls "$room/first")" "$(basename "$room"/first/*.tar)"
 
