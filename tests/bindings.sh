@@ -4,8 +4,6 @@
 set -u
 cd "$(dirname "$0")/.." || exit 2
 . tests/lib.sh
-room=$(mktemp -d)
-trap 'rm -rf "$room"' EXIT
 export PYTHONDONTWRITEBYTECODE=1 PIP_CONFIG_FILE=/dev/null CARGO_TARGET_DIR=$room/cargo RUSTFLAGS=-Dwarnings
 unset VALVEPIGEON_LIBRARY VALVEPIGEON_LIBRARY_DIR
 

@@ -4,8 +4,6 @@
 set -u
 cd "$(dirname "$0")/.." || exit 2
 . tests/lib.sh
-room=$(mktemp -d)
-trap 'chmod -R u+w "$room" && rm -rf "$room"' EXIT
 need_library
 paper_sheet >"$room/sheet"
 copy="$room/a copy"

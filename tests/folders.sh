@@ -4,8 +4,6 @@ set -u
 cd "$(dirname "$0")/.." || exit 2
 . tests/lib.sh
 root=$PWD
-room=$(mktemp -d) || exit 2
-trap 'rm -rf "$room"' EXIT
 mkdir "$room/work" && cd "$room/work" || exit 2
 
 text() { # SHEET COEFFICIENTS

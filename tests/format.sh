@@ -4,8 +4,6 @@
 set -u
 cd "$(dirname "$0")/.." || exit 2
 . tests/lib.sh
-room=$(mktemp -d)
-trap 'rm -rf "$room"' EXIT
 
 if python3 -B tests/format.py "$room"; then pass; else fail 'docs/FORMAT.md and the second program'; fi
 

@@ -3,6 +3,10 @@ passed=0 failed=0
 pass() { passed=$((passed + 1)); }
 fail() { failed=$((failed + 1)); printf 'FAILED: %s\n' "$*"; }
 
+# A folder for what a test makes, which goes when the test ends.
+room=$(mktemp -d) || exit 2
+trap 'chmod -R u+w "$room"; rm -rf "$room"' EXIT
+
 # The last line of every test.
 conclude() {
     echo "$passed passed, $failed failed"

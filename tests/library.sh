@@ -3,8 +3,6 @@
 set -u
 cd "$(dirname "$0")/.." || exit 2
 . tests/lib.sh
-room=$(mktemp -d)
-trap 'rm -rf "$room"' EXIT
 need_library
 prefix=$room/prefix
 version=$(sed -n 's/^#define VP_VERSION_STRING "\(.*\)"/\1/p' include/valvepigeon.h)

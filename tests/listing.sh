@@ -3,8 +3,6 @@
 set -u
 cd "$(dirname "$0")/.." || exit 2
 . tests/lib.sh
-room=$(mktemp -d)
-trap 'rm -rf "$room"' EXIT
 
 prints() { # NAME EXPECTED-FILE; the input is standard input
     run_x86 target/bin/listing >"$room/got"

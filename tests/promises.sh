@@ -6,8 +6,6 @@
 set -u
 cd "$(dirname "$0")/.." || exit 2
 . tests/lib.sh
-room=$(mktemp -d)
-trap 'rm -rf "$room"' EXIT
 page=docs/PROMISES.md
 
 # FILE NAME for each citation, one a line; NAME is '-' for the file alone.

@@ -6,8 +6,6 @@ cd "$(dirname "$0")/.." || exit 2
 . tests/lib.sh
 root=$PWD
 export PYTHONDONTWRITEBYTECODE=1
-room=$(mktemp -d)
-trap 'rm -rf "$room"' EXIT
 
 # Runs commands; the README shows each, and what it prints, one below the other.
 shows() { # COMMAND...

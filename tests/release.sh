@@ -3,8 +3,6 @@
 set -u
 cd "$(dirname "$0")/.." || exit 2
 . tests/lib.sh
-room=$(mktemp -d)
-trap 'chmod -R u+w "$room" && rm -rf "$room"' EXIT
 need_library
 
 right './release' ./release "$room/first"

@@ -3,8 +3,6 @@
 set -u
 cd "$(dirname "$0")/.." || exit 2
 . tests/lib.sh
-room=$(mktemp -d)
-trap 'rm -rf "$room"' EXIT
 
 need_library
 link_c "$room/words" tests/words.c target/staticlib/libvalvepigeon.a && run_x86 "$room/words" 99 >"$room/messages"
