@@ -1,68 +1,195 @@
-/* Each operation in plain C and proved, on the same N arguments. Built plainly, the loops stand between marks, for the counting plugin, and
-   the names are printed in their order. Built with -DTIMES, each loop is timed, in turn with its twin, and the best of ROUNDS is printed.
-   The answers are compared in both; a difference ends the program with status 1. */
-#include "plain.h"
+/* Makes every call of the benchmark twice, of plain C (plain.c) and of the library, and compares the answers, all of each.
+   `measure SHEET` makes each call between marks, for insn.c, plain C and the library by turns; for each row it prints the name and how
+   many calls each side had. `measure SHEET times` prints for each row the name and the ns a call took, of plain C and of the library.
+   Where an answer is not as it should be, it says so and ends with status 1. */
+#include <stdio.h>
+#include <string.h>
 #include "mark.h"
-#include "sheets.h"
-#include "valvepigeon.h"
-int printf(const char *, ...);
-enum { N = 1000, ROUNDS = 41, PLACES = 24 };
-static word near_one[N], about_one[N], positive[N];
-static word poly8[8], poly16[16], tangent[32];
-static word top[3] = {201326592, 100663296, 16777216}, bottom[3] = {201326592, -100663296, 16777216};
-static unsigned long long seed = 88172645463325252ULL;
-static unsigned long long draw(void) { seed ^= seed << 13; seed ^= seed >> 7; seed ^= seed << 17; return seed; }
-static volatile unsigned places = PLACES;      /* so that no compiler knows the scale */
-static wide answers[2];
-static const unsigned char *run = all_sheet + 8;
-static const unsigned long run_length = sizeof all_sheet - 16;
-static unsigned char out[sizeof all_sheet];
+#include "plain.h"
 
-#ifdef TIMES
+/* Of the C library, beside what scripts/c/ declares. */
 struct moment { long seconds, nanoseconds; };
 int clock_gettime(int, struct moment *);
-static double now(void) { struct moment t; clock_gettime(1, &t); return t.seconds * 1e9 + t.nanoseconds; }
-static double best[2];
-#define RUN(k, call) do { double t0 = now(); for (int r = 0; r < 20; r++) for (int i = 0; i < N; i++) sum += (call); \
-    double t = (now() - t0) / (20.0 * N); if (t < best[k]) best[k] = t; } while (0)
-#define LOOPS(plain, proved) do { best[0] = best[1] = 1e9; for (int turn = 0; turn < ROUNDS; turn++) { \
-    wide sum = 0; RUN(0, plain); answers[0] = sum; sum = 0; RUN(1, proved); answers[1] = sum; } } while (0)
-#define SAY(name) printf("%-22s %8.2f %8.2f %6.3f\n", name, best[0], best[1], best[1] / best[0])
-#else
-#define RUN(k, call) do { wide sum = 0; MARK(); for (int i = 0; i < N; i++) sum += (call); MARK(); answers[k] = sum; } while (0)
-#define LOOPS(plain, proved) do { RUN(0, plain); RUN(1, proved); } while (0)
-#define SAY(name) printf("%s\n", name)
-#endif
-#define ROW(name, plain, proved) do { LOOPS(plain, proved); SAY(name); \
-    if (answers[0] != answers[1]) { printf("%s: the answers differ\n", name); return 1; } } while (0)
+void exit(int);
 
-int main(void) {
-    unsigned s = places;
-    for (int i = 0; i < N; i++) {
-        near_one[i] = (word)(draw() % 33554432) - 16777216;
-        about_one[i] = (word)(draw() % 16777216) + 8388608;
-        positive[i] = (word)(draw() % 2113929216) + 1;
+enum { COUNTED = 200 };                                    /* calls of a row that are counted */
+enum { SLICE = 1000, TIMED = 50000000, PASSES = 10 };      /* calls of a slice, ns for a row in a pass, passes over all rows */
+enum { KINDS = 4, ROWS = 32, ROOM = VP_MOST_FORMULAS * VP_LONGEST_RECORD + VP_SHEET_ADDS };
+
+typedef struct { uint8_t bytes[ROOM]; size_t length; } sheet;
+
+/* A formula of the whole sheet: its fields, a sheet of it alone, and arguments of its interval. */
+typedef struct {
+    const char *kind;
+    uint16_t number;
+    vp_fields fields;
+    sheet alone;
+    int32_t arguments[SLICE];
+    double doubles[SLICE];
+} formula;
+
+static sheet whole;
+static formula formulas[KINDS] = {{"polynomial", 12}, {"rational", 53}, {"fraction", 54}, {"root", 161}};
+static uint8_t out[ROOM], kept[ROOM];      /* what a call writes to; what it was after plain C's */
+
+static void stop(const char *name, const char *why) {
+    fprintf(stderr, "%s: %s\n", name, why);
+    exit(1);
+}
+
+/* Whether two answers are the same in every field, doubles in every bit. */
+#define SAME(field) (memcmp(&a->field, &b->field, sizeof a->field) == 0)
+#define SAME_ANSWER(shape, rest) \
+    static int same_##shape(const vp_##shape *a, const vp_##shape *b) { return SAME(refused) && SAME(place) && rest; }
+SAME_ANSWER(counted, SAME(count))
+SAME_ANSWER(worked, SAME(word))
+SAME_ANSWER(shown, SAME(value))
+SAME_ANSWER(ends, SAME(low) && SAME(high))
+SAME_ANSWER(written, SAME(length))
+SAME_ANSWER(found, SAME(fields.kind) && SAME(fields.number) && SAME(fields.lo) && SAME(fields.hi) && SAME(fields.p) && SAME(fields.q) &&
+                       SAME(fields.mode) && SAME(fields.words))
+
+/* Judges the answers of both sides, and what they have written; the library is the last to have been called. */
+static void judge(const char *name, int same, uint32_t refused, uint32_t expected) {
+    if (!same || memcmp(out, kept, ROOM) != 0) stop(name, "plain C and the library differ");
+    if (refused != expected) stop(name, "the refusal is not the expected one");
+}
+
+/* The two sides of a function. Both are called from one place, so that what a caller does for a call is the same for both. */
+#define SIDES(function) __typeof__(&vp_##function) const sides[2] = {plain_##function, vp_##function}
+
+#define COUNT(name, shape, function, ...)                                                         \
+    do {                                                                                          \
+        SIDES(function);                                                                          \
+        vp_##shape answers[2];                                                                    \
+        for (int call = 0; call < 2 * COUNTED; call++) {                                          \
+            int i = call / 2, side = call % 2;                                                    \
+            (void)i;                                                                              \
+            memset(out, 0, ROOM);                                                                 \
+            MARK();                                                                               \
+            const vp_##shape answer = sides[side](__VA_ARGS__);                                   \
+            MARK();                                                                               \
+            answers[side] = answer;                                                               \
+            if (side == 0) memcpy(kept, out, ROOM);                                               \
+            else judge(name, same_##shape(&answers[0], &answers[1]), answer.refused, 0);          \
+        }                                                                                         \
+        printf("%s\t%d\n", name, COUNTED);                                                        \
+    } while (0)
+
+static double now(void) {
+    struct moment t;
+    clock_gettime(1, &t);
+    return t.seconds * 1e9 + t.nanoseconds;
+}
+
+static double bests[ROWS][2];              /* ns of each row's best slice; 0 where it had none yet */
+static int row, pass;
+
+/* Slices by turns, and the best of each side: whatever else the machine does only adds to a slice. */
+#define TIME(name, shape, function, ...)                                                          \
+    do {                                                                                          \
+        SIDES(function);                                                                          \
+        static vp_##shape answers[2][SLICE];                                                      \
+        double *best = bests[row++], begun = now();                                               \
+        do {                                                                                      \
+            for (int side = 0; side < 2; side++) {                                                \
+                memset(out, 0, ROOM);                                                             \
+                double start = now();                                                             \
+                for (int i = 0; i < SLICE; i++) answers[side][i] = sides[side](__VA_ARGS__);      \
+                double taken = now() - start;                                                     \
+                if (best[side] == 0 || taken < best[side]) best[side] = taken;                    \
+                if (side == 0) memcpy(kept, out, ROOM);                                           \
+            }                                                                                     \
+            for (int i = 0; i < SLICE; i++)                                                       \
+                judge(name, same_##shape(&answers[0][i], &answers[1][i]), answers[0][i].refused, 0); \
+        } while (now() - begun < TIMED);                                                          \
+        if (pass == PASSES) printf("%s\t%.2f\t%.2f\n", name, best[0] / SLICE, best[1] / SLICE);   \
+    } while (0)
+
+/* A row: a name, the answer's struct, the function, and its arguments, where i is the number of the call. */
+#define ROW(name, ...) do { if (timing) TIME(name, __VA_ARGS__); else COUNT(name, __VA_ARGS__); } while (0)
+
+static const char *joined(const char *first, const char *second) {
+    static char name[64];
+    snprintf(name, sizeof name, "%s%s", first, second);
+    return name;
+}
+
+#define WHOLE whole.bytes, whole.length
+#define RUN whole.bytes + 8, whole.length - VP_SHEET_ADDS
+#define ALONE(f) f->alone.bytes, f->alone.length, f->number
+
+static void rows(int timing) {
+    const formula *polynomial = &formulas[0], *fraction = &formulas[2], *f, *end = formulas + KINDS;
+    ROW("reading 64 formulas", counted, count, WHOLE);
+    ROW("writing 64 formulas", written, write_sheet, RUN, out, ROOM);
+    for (f = formulas; f < end; f++) ROW(joined(f->kind, ", sheet of 1"), worked, evaluate, ALONE(f), f->arguments[i]);
+    for (f = formulas; f < end; f++) ROW(joined(f->kind, ", sheet of 64"), worked, evaluate, WHOLE, f->number, f->arguments[i]);
+    ROW("double, polynomial", shown, evaluate_double, ALONE(polynomial), polynomial->doubles[i]);
+    ROW("interval, polynomial", ends, interval, ALONE(polynomial));
+    ROW("formula, polynomial", found, formula, ALONE(polynomial));
+    ROW("formula, fraction", found, formula, ALONE(fraction));
+    for (f = formulas; f < end; f++) ROW(joined("record, ", f->kind), written, write_record, f->fields, out, ROOM);
+}
+
+#define REFUSED(expected, shape, function, ...)                                                   \
+    do {                                                                                          \
+        SIDES(function);                                                                          \
+        vp_##shape answers[2];                                                                    \
+        for (int side = 0; side < 2; side++) {                                                    \
+            memset(out, 0, ROOM);                                                                 \
+            answers[side] = sides[side](__VA_ARGS__);                                             \
+            if (side == 0) memcpy(kept, out, ROOM);                                               \
+        }                                                                                         \
+        judge("refused " #function, same_##shape(&answers[0], &answers[1]), answers[0].refused, expected); \
+    } while (0)
+
+static void refusals(void) {
+    const formula *f = formulas;
+    for (size_t cut = 0; cut < whole.length; cut += 7) REFUSED(VP_CUT_SHORT, counted, count, whole.bytes, cut);
+    REFUSED(VP_BYTES_AFTER_END, counted, count, WHOLE + 1);
+    REFUSED(VP_CUT_SHORT, worked, evaluate, WHOLE - 1, f->number, 0);
+    REFUSED(VP_NO_SUCH_FORMULA, worked, evaluate, WHOLE, 0, 0);
+    REFUSED(VP_NO_SUCH_FORMULA, shown, evaluate_double, WHOLE, 0, 0);
+    REFUSED(VP_NO_SUCH_FORMULA, ends, interval, WHOLE, 0);
+    REFUSED(VP_NO_SUCH_FORMULA, found, formula, WHOLE, 0);
+    REFUSED(VP_ARGUMENT_OUTSIDE, worked, evaluate, WHOLE, f->number, f->fields.hi + 1);
+    REFUSED(VP_ARGUMENT_OUTSIDE, shown, evaluate_double, WHOLE, f->number, 1e300);
+    REFUSED(VP_NOT_FINITE, shown, evaluate_double, WHOLE, f->number, __builtin_inf());
+    REFUSED(VP_WRONG_KIND, written, write_record, ((vp_fields){0}), out, ROOM);
+    REFUSED(VP_BUFFER_TOO_SHORT, written, write_record, f->fields, out, f->alone.length - VP_SHEET_ADDS - 1);
+    REFUSED(VP_WRONG_COUNT, written, write_sheet, whole.bytes, 0, out, ROOM);
+    REFUSED(VP_CUT_SHORT, written, write_sheet, RUN - 1, out, ROOM);
+    REFUSED(VP_WRONG_KIND, written, write_sheet, RUN + 8, out, ROOM);
+    REFUSED(VP_BUFFER_TOO_SHORT, written, write_sheet, RUN, out, whole.length - 1);
+}
+
+static uint64_t drawn(void) {
+    static uint64_t seed = 88172645463325252;
+    seed ^= seed << 13;
+    seed ^= seed >> 7;
+    return seed ^= seed << 17;
+}
+
+static void prepare(formula *f) {
+    uint8_t record[VP_LONGEST_RECORD];
+    f->fields = plain_formula(whole.bytes, whole.length, f->number).fields;
+    size_t length = plain_write_record(f->fields, record, sizeof record).length;
+    f->alone.length = plain_write_sheet(record, length, f->alone.bytes, ROOM).length;
+    for (int i = 0; i < SLICE; i++) {
+        f->arguments[i] = (int32_t)(f->fields.lo + (long)(drawn() % ((uint64_t)f->fields.hi - f->fields.lo + 1)));
+        f->doubles[i] = (f->arguments[i] + drawn() % 1024 / 2048.0) / 16777216.0;
     }
-    wide f = 1LL << 40;
-    for (int i = 0; i < 16; i++) { if (i) f /= i; poly16[i] = (word)(f >> 16); if (i < 8) poly8[i] = poly16[i]; }
-    for (int j = 1; j <= 7; j++) { tangent[2 * j - 1] = j == 1 ? 16777216 : -16777216; tangent[2 * j] = (2 * j - 1) * 16777216; }
-    ROW("product", plain_product(near_one[i], about_one[i], s), measured_product(near_one[i], about_one[i], s));
-    ROW("quotient", plain_quotient(near_one[i], about_one[i], s), measured_quotient(near_one[i], about_one[i], s));
-    ROW("polynomial, 8 terms", plain_polynomial(poly8, 8, near_one[i], s), measured_polynomial(poly8, 8, near_one[i], s));
-    ROW("polynomial, 16 terms", plain_polynomial(poly16, 16, near_one[i], s), measured_polynomial(poly16, 16, near_one[i], s));
-    ROW("rational, 3 over 3", plain_rational(top, 3, bottom, 3, near_one[i], s), measured_rational(top, 3, bottom, 3, near_one[i], s));
-    ROW("fraction, depth 7", plain_fraction(tangent, 7, 2, near_one[i], s), measured_fraction(tangent, 7, 2, near_one[i], s));
-    ROW("root", plain_root(positive[i], s), measured_root(positive[i], s));
-    ROW("reading 64 formulas", plain_count(all_sheet, sizeof all_sheet), measured_count(all_sheet, sizeof all_sheet));
-    ROW("writing 64 formulas", plain_write_sheet(run, run_length, out, sizeof out), measured_write_sheet(run, run_length, out, sizeof out));
-    ROW("one-call polynomial", plain_evaluate(sine_sheet, sizeof sine_sheet, 12, near_one[i]), measured_evaluate(sine_sheet, sizeof sine_sheet, 12, near_one[i]));
-    ROW("one-call fraction", plain_evaluate(tangent_sheet, sizeof tangent_sheet, 54, near_one[i] / 2), measured_evaluate(tangent_sheet, sizeof tangent_sheet, 54, near_one[i] / 2));
-#ifndef TIMES
-    /* the library as it is shipped; not timed elsewhere than on x86-64, since its structs go by value as there */
-    ROW("shipped: reading", plain_count(all_sheet, sizeof all_sheet), vp_count(all_sheet, sizeof all_sheet).count);
-    ROW("shipped: writing", plain_write_sheet(run, run_length, out, sizeof out), vp_write_sheet(run, run_length, out, sizeof out).length);
-    ROW("shipped: polynomial", plain_evaluate(sine_sheet, sizeof sine_sheet, 12, near_one[i]), vp_evaluate(sine_sheet, sizeof sine_sheet, 12, near_one[i]).word);
-    ROW("shipped: fraction", plain_evaluate(tangent_sheet, sizeof tangent_sheet, 54, near_one[i] / 2), vp_evaluate(tangent_sheet, sizeof tangent_sheet, 54, near_one[i] / 2).word);
-#endif
+}
+
+int main(int count, char **words) {
+    FILE *file = count > 1 ? fopen(words[1], "rb") : NULL;
+    if (!file) stop("measure", "no sheet that can be read");
+    whole.length = fread(whole.bytes, 1, ROOM, file);
+    fclose(file);
+    for (int k = 0; k < KINDS; k++) prepare(&formulas[k]);
+    refusals();
+    if (count == 2) rows(0);
+    else while (pass++ < PASSES) row = 0, rows(1);
     return 0;
 }

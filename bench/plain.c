@@ -1,47 +1,320 @@
+/* The library's functions in plain C, in one file, with the same signatures and structs, as an expert writes them for speed: what the
+   library is measured against. Nothing here is proved. It is for x86-64: words lie in the sheet's bytes as in memory. */
+#include <string.h>
 #include "plain.h"
 
-static inline wide mul(word a, word b, unsigned s) { return ((wide)a * b + (1LL << (s - 1))) >> s; }
+#define MOST 2147483647u               /* the largest word */
+enum { PLACES = 24, ONE = 1 << PLACES, START = 1, END = 0xFFFF };
+typedef long long wide;
 
-static inline wide quo(word a, word d, unsigned s) {
-    wide m = (wide)a * (1LL << s), e = d;
+static inline uint32_t u16(const uint8_t *p) { uint16_t v; memcpy(&v, p, 2); return v; }
+static inline uint32_t u32(const uint8_t *p) { uint32_t v; memcpy(&v, p, 4); return v; }
+static inline int32_t i32(const uint8_t *p) { return (int32_t)u32(p); }
+static inline void put16(uint8_t *p, uint16_t v) { memcpy(p, &v, 2); }
+static inline void put32(uint8_t *p, uint32_t v) { memcpy(p, &v, 4); }
+
+/* Arithmetic: of words, rounded to the nearest, a tie upward; of bounds, rounded upward. */
+static inline wide product(int32_t a, int32_t b) { return ((wide)a * b + ONE / 2) >> PLACES; }
+
+static inline wide quotient(int32_t a, int32_t d) {
+    wide m = (wide)a * ONE, e = d;
     if (d < 0) { m = -m; e = -e; }
     wide t = 2 * m + e, w = 2 * e, q = t / w;
     return q - (t % w < 0);
 }
 
-wide plain_product(word a, word b, unsigned s) { return mul(a, b, s); }
+static inline uint32_t size(int32_t x) { return x < 0 ? 0u - (uint32_t)x : (uint32_t)x; }
+static inline uint64_t bound_product(uint64_t a, uint64_t b) { return (a * b + (ONE - 1)) >> PLACES; }
+static inline uint64_t bound_quotient(uint64_t g, uint64_t l) { return ((g << PLACES) + (l - 1)) / l; }
 
-wide plain_quotient(word a, word d, unsigned s) { return quo(a, d, s); }
+/* Admission: 0, or the refusal. `a` bounds the argument's size, `c` is where the coefficients stand. */
 
-static inline word poly(const word *c, unsigned long n, word x, unsigned s) {
-    word t = c[n - 1];
-    for (unsigned long i = n - 1; i-- > 0;) t = (word)(c[i] + mul(t, x, s));
-    return t;
-}
-
-word plain_polynomial(const word *c, unsigned long n, word x, unsigned s) { return poly(c, n, x, s); }
-
-word plain_rational(const word *p, unsigned long np, const word *q, unsigned long nq, word x, unsigned s) {
-    return (word)quo(poly(p, np, x, s), poly(q, nq, x, s), s);
-}
-
-word plain_fraction(const word *c, unsigned long k, unsigned mode, word x, unsigned s) {
-    word rest = mode ? (word)mul(x, x, s) : x, first = mode == 1 ? rest : x, t = c[2 * k];
-    for (unsigned long j = k; j > 0; j--) {
-        word v = j == 1 ? first : rest;
-        t = (word)(c[2 * j - 2] + quo((word)mul(c[2 * j - 1], v, s), t, s));
+/* The bound of a polynomial with m coefficients, or a number above MOST; *second is the bound one step before (0 where m is 1). */
+static inline uint64_t polynomial_bound(const uint8_t *c, uint32_t m, uint64_t a, uint64_t *second) {
+    uint64_t b = size(i32(c + 4 * (m - 1)));
+    *second = 0;
+    for (uint32_t i = m - 1; i-- > 0;) {
+        *second = b;
+        b = size(i32(c + 4 * i)) + bound_product(b, a);
+        if (b > MOST) return b;
     }
+    return b;
+}
+
+static inline uint32_t admit_rational(const uint8_t *c, uint32_t p, uint32_t q, uint64_t a) {
+    uint64_t second, top = polynomial_bound(c, p, a, &second);
+    if (top > MOST) return VP_RANGE_LEFT;
+    const uint8_t *d = c + 4 * p;
+    if (polynomial_bound(d, q, a, &second) > MOST) return VP_RANGE_LEFT;
+    uint64_t d0 = size(i32(d)), lost = q > 1 ? bound_product(second, a) : 0;
+    if (d0 <= lost) return VP_DIVISOR_ZERO;
+    return bound_quotient(top, d0 - lost) > MOST ? VP_RANGE_LEFT : 0;
+}
+
+static inline uint32_t admit_fraction(const uint8_t *c, uint32_t mode, uint32_t depth, uint64_t a) {
+    uint64_t s = a;
+    if (mode) {
+        s = bound_product(a, a);
+        if (s > MOST) return VP_RANGE_LEFT;
+    }
+    uint64_t least = size(i32(c + 8 * depth));
+    if (least < 1) return VP_DIVISOR_ZERO;
+    for (uint32_t j = depth; j > 0; j--) {
+        uint64_t g = bound_product(size(i32(c + 8 * j - 4)), mode == 2 && j == 1 ? a : s);
+        if (g > MOST) return VP_RANGE_LEFT;
+        uint64_t q = bound_quotient(g, least), b = size(i32(c + 8 * j - 8));
+        if (b + q > MOST) return VP_RANGE_LEFT;
+        if (j > 1) {
+            if (b <= q) return VP_DIVISOR_ZERO;
+            least = b - q;
+        }
+    }
+    return 0;
+}
+
+/* Whether n values are all words; without an early exit, so that the compiler may look at several at a time. */
+static inline int words(const uint8_t *p, uint32_t n) {
+    uint32_t bad = 0;
+    for (uint32_t i = 0; i < n; i++) bad |= u32(p + 4 * i) == 0x80000000u;
+    return !bad;
+}
+
+/* A formula's values: lo, hi, and n coefficients; m and q count them, or m is the depth. */
+static inline uint32_t check_values(uint32_t kind, int32_t lo, int32_t hi, const uint8_t *c, uint32_t m, uint32_t q, uint32_t mode, uint32_t n) {
+    if (lo == INT32_MIN || hi == INT32_MIN || !words(c, n) || lo > hi || mode > 2 || (kind == VP_ROOT && lo < 0)) return VP_WRONG_VALUE;
+    uint64_t a = size(lo) > size(hi) ? size(lo) : size(hi), second;
+    switch (kind) {
+    case VP_POLYNOMIAL: return polynomial_bound(c, m, a, &second) > MOST ? VP_RANGE_LEFT : 0;
+    case VP_RATIONAL: return admit_rational(c, m, q, a);
+    case VP_FRACTION: return admit_fraction(c, mode, m, a);
+    default: return 0;
+    }
+}
+
+/* A formula record, after `seen` others, the last of which has the number `last`. */
+static inline uint32_t check_record(const uint8_t *r, uint32_t length, uint32_t kind, uint32_t seen, uint32_t count, uint32_t last) {
+    uint32_t m = 0, q = 0, n = 0, mode = 0;
+    const uint8_t *c = r + 16;
+    switch (kind) {
+    case VP_POLYNOMIAL:
+        if (length < 20 || length > 80 || length % 4) return VP_WRONG_LENGTH;
+        n = m = (length - 16) / 4;
+        break;
+    case VP_RATIONAL:
+        if (length < 20) return VP_WRONG_LENGTH;
+        m = u16(r + 16), q = u16(r + 18);
+        if (m - 1 > 11 || q - 1 > 11 || length != 20 + 4 * (m + q)) return VP_WRONG_LENGTH;
+        n = m + q, c = r + 20;
+        break;
+    case VP_FRACTION:
+        if (length < 24) return VP_WRONG_LENGTH;
+        mode = u16(r + 16), m = u16(r + 18);
+        if (m - 1 > 11 || length != 24 + 8 * m) return VP_WRONG_LENGTH;
+        n = 2 * m + 1, c = r + 20;
+        break;
+    default:
+        if (length != 16) return VP_WRONG_LENGTH;
+    }
+    if (seen >= count) return VP_WRONG_COUNT;
+    if (seen && u16(r + 6) <= last) return VP_NUMBER_NOT_ABOVE;
+    return check_values(kind, i32(r + 8), i32(r + 12), c, m, q, mode, n);
+}
+
+typedef struct { uint32_t refused, count; size_t place; } verdict;
+
+/* A whole sheet; *found becomes the record with the number asked for, where there is one. */
+static inline verdict check_sheet(const uint8_t *sheet, size_t n, uint32_t asked, const uint8_t **found) {
+    size_t at = 0;
+    uint32_t seen = 0, count = 0, last = 0;
+#define REFUSE(number) return (verdict){number, 0, at}
+    for (;;) {
+        const uint8_t *r = sheet + at;
+        if (n - at < 4) REFUSE(VP_CUT_SHORT);
+        uint32_t length = u32(r);
+        if (length < 8 || length > 120) REFUSE(VP_WRONG_LENGTH);
+        if (n - at < length) REFUSE(VP_CUT_SHORT);
+        uint32_t kind = u16(r + 4);
+        if (at == 0) {
+            if (kind != START) REFUSE(VP_WRONG_KIND);
+            if (length != 8) REFUSE(VP_WRONG_LENGTH);
+            count = u16(r + 6);
+            if (count < 1 || count > 64) REFUSE(VP_WRONG_COUNT);
+        } else if (kind >= VP_POLYNOMIAL && kind <= VP_ROOT) {
+            uint32_t refused = check_record(r, length, kind, seen, count, last);
+            if (refused) REFUSE(refused);
+            last = u16(r + 6);
+            if (last == asked) *found = r;
+            seen++;
+        } else if (kind == END) {
+            if (length != 8) REFUSE(VP_WRONG_LENGTH);
+            if (seen != count || u16(r + 6) != count) REFUSE(VP_WRONG_COUNT);
+            at += length;
+            return at == n ? (verdict){0, count, 0} : (verdict){VP_BYTES_AFTER_END, 0, at};
+        } else REFUSE(VP_WRONG_KIND);
+        at += length;
+    }
+#undef REFUSE
+}
+
+/* Evaluation, of an admitted record at an argument of its interval. */
+static inline int32_t horner(const uint8_t *c, uint32_t n, int32_t x) {
+    int32_t t = i32(c + 4 * (n - 1));
+    for (uint32_t i = n - 1; i-- > 0;) t = (int32_t)(i32(c + 4 * i) + product(t, x));
     return t;
 }
 
-word plain_root(word x, unsigned s) {
+static inline int32_t rational(const uint8_t *r, int32_t x) {
+    uint32_t p = u16(r + 16), q = u16(r + 18);
+    return (int32_t)quotient(horner(r + 20, p, x), horner(r + 20 + 4 * p, q, x));
+}
+
+static inline int32_t fraction(const uint8_t *r, int32_t x) {
+    uint32_t mode = u16(r + 16), depth = u16(r + 18);
+    const uint8_t *c = r + 20;
+    int32_t rest = mode ? (int32_t)product(x, x) : x, first = mode == 1 ? rest : x, t = i32(c + 8 * depth);
+    for (uint32_t j = depth; j > 0; j--)
+        t = (int32_t)(i32(c + 8 * j - 8) + quotient((int32_t)product(i32(c + 8 * j - 4), j == 1 ? first : rest), t));
+    return t;
+}
+
+static inline int32_t heron(int32_t x) {
     if (x == 0) return 0;
-    unsigned long long v = (unsigned long long)x << s;
-    int b = 64 - __builtin_clzll(v);
-    unsigned long long w = 1ULL << ((b + 1) / 2);
+    uint64_t v = (uint64_t)x << PLACES, w = 1ULL << ((65 - __builtin_clzll(v)) / 2);
     for (;;) {
-        unsigned long long next = (w + v / w) / 2;
-        if (w <= next) return (word)w;
+        uint64_t next = (w + v / w) / 2;
+        if (w <= next) return (int32_t)w;
         w = next;
     }
+}
+
+static inline int32_t answer(const uint8_t *r, int32_t x) {
+    switch (u16(r + 4)) {
+    case VP_POLYNOMIAL: return horner(r + 16, (u32(r) - 16) / 4, x);
+    case VP_RATIONAL: return rational(r, x);
+    case VP_FRACTION: return fraction(r, x);
+    default: return heron(x);
+    }
+}
+
+/* The functions of valvepigeon.h. */
+vp_counted plain_count(const uint8_t *sheet, size_t length) {
+    const uint8_t *r = 0;
+    verdict v = check_sheet(sheet, length, 65536, &r);
+    return (vp_counted){v.refused, v.place, v.count};
+}
+
+vp_worked plain_evaluate(const uint8_t *sheet, size_t length, uint16_t number, int32_t argument) {
+    const uint8_t *r = 0;
+    verdict v = check_sheet(sheet, length, number, &r);
+    if (v.refused) return (vp_worked){v.refused, v.place, 0};
+    if (!r) return (vp_worked){VP_NO_SUCH_FORMULA, 0, 0};
+    if (argument < i32(r + 8) || argument > i32(r + 12)) return (vp_worked){VP_ARGUMENT_OUTSIDE, 0, 0};
+    return (vp_worked){0, 0, answer(r, argument)};
+}
+
+vp_shown plain_evaluate_double(const uint8_t *sheet, size_t length, uint16_t number, double argument) {
+    const uint8_t *r = 0;
+    verdict v = check_sheet(sheet, length, number, &r);
+    if (v.refused) return (vp_shown){v.refused, v.place, 0};
+    if (!r) return (vp_shown){VP_NO_SUCH_FORMULA, 0, 0};
+    uint64_t b;
+    memcpy(&b, &argument, 8);
+    uint32_t e = b >> 52 & 0x7ff;
+    if (e == 0x7ff) return (vp_shown){VP_NOT_FINITE, 0, 0};
+    if (e >= 1075 - PLACES) return (vp_shown){VP_ARGUMENT_OUTSIDE, 0, 0};
+    wide z = 0;
+    if (e >= 1022 - PLACES) {
+        wide m = (wide)((b & 0xfffffffffffffULL) | 1ULL << 52);
+        if (b >> 63) m = -m;
+        unsigned cut = 1075 - PLACES - e;
+        z = (m + (1LL << (cut - 1))) >> cut;
+        if (z < -2147483647 || z > 2147483647) return (vp_shown){VP_ARGUMENT_OUTSIDE, 0, 0};
+    }
+    int32_t x = (int32_t)z;
+    if (x < i32(r + 8) || x > i32(r + 12)) return (vp_shown){VP_ARGUMENT_OUTSIDE, 0, 0};
+    return (vp_shown){0, 0, answer(r, x) / (double)ONE};
+}
+
+vp_ends plain_interval(const uint8_t *sheet, size_t length, uint16_t number) {
+    const uint8_t *r = 0;
+    verdict v = check_sheet(sheet, length, number, &r);
+    if (v.refused) return (vp_ends){v.refused, v.place, 0, 0};
+    if (!r) return (vp_ends){VP_NO_SUCH_FORMULA, 0, 0, 0};
+    return (vp_ends){0, 0, i32(r + 8) / (double)ONE, i32(r + 12) / (double)ONE};
+}
+
+vp_found plain_formula(const uint8_t *sheet, size_t length, uint16_t number) {
+    const uint8_t *r = 0;
+    verdict v = check_sheet(sheet, length, number, &r);
+    vp_found f;
+    memset(&f, 0, sizeof f);
+    if (v.refused) { f.refused = v.refused; f.place = v.place; return f; }
+    if (!r) { f.refused = VP_NO_SUCH_FORMULA; return f; }
+    vp_fields *g = &f.fields;
+    g->kind = u16(r + 4), g->number = u16(r + 6), g->lo = i32(r + 8), g->hi = i32(r + 12);
+    uint32_t bytes = u32(r), head = 16;
+    if (g->kind == VP_POLYNOMIAL) g->p = (bytes - 16) / 4;
+    else if (g->kind == VP_RATIONAL) g->p = u16(r + 16), g->q = u16(r + 18), head = 20;
+    else if (g->kind == VP_FRACTION) g->mode = u16(r + 16), g->p = u16(r + 18), head = 20;
+    memcpy(g->words, r + head, bytes - head);
+    return f;
+}
+
+vp_written plain_write_record(vp_fields f, uint8_t *out, size_t room) {
+    uint32_t n = 0, m = 0, q = 0, mode = 0, head = 16;
+    switch (f.kind) {
+    case VP_POLYNOMIAL:
+        if (f.p < 1 || f.p > 16) return (vp_written){VP_WRONG_LENGTH, 0, 0};
+        n = m = f.p;
+        break;
+    case VP_RATIONAL:
+        if (f.p < 1 || f.p > 12 || f.q < 1 || f.q > 12) return (vp_written){VP_WRONG_LENGTH, 0, 0};
+        m = f.p, q = f.q, n = m + q, head = 20;
+        break;
+    case VP_FRACTION:
+        if (f.p < 1 || f.p > 12) return (vp_written){VP_WRONG_LENGTH, 0, 0};
+        m = f.p, mode = f.mode, n = 2 * m + 1, head = 20;
+        break;
+    case VP_ROOT:
+        break;
+    default:
+        return (vp_written){VP_WRONG_KIND, 0, 0};
+    }
+    uint32_t refused = check_values(f.kind, f.lo, f.hi, (const uint8_t *)f.words, m, q, mode, n);
+    if (refused) return (vp_written){refused, 0, 0};
+    size_t length = head + 4 * n;
+    if (room < length) return (vp_written){VP_BUFFER_TOO_SHORT, 0, 0};
+    put32(out, (uint32_t)length), put16(out + 4, f.kind), put16(out + 6, f.number);
+    put32(out + 8, (uint32_t)f.lo), put32(out + 12, (uint32_t)f.hi);
+    if (f.kind == VP_RATIONAL) put16(out + 16, f.p), put16(out + 18, f.q);
+    if (f.kind == VP_FRACTION) put16(out + 16, f.mode), put16(out + 18, f.p);
+    memcpy(out + head, f.words, 4 * n);
+    return (vp_written){0, 0, length};
+}
+
+static inline void put_end(uint8_t *p, uint16_t kind, uint16_t count) { put32(p, 8), put16(p + 4, kind), put16(p + 6, count); }
+
+vp_written plain_write_sheet(const uint8_t *run, size_t n, uint8_t *out, size_t room) {
+    size_t at = 0;
+    uint32_t seen = 0, last = 0;
+#define REFUSE(number) return (vp_written){number, at + 8, 0}
+    if (n == 0) return (vp_written){VP_WRONG_COUNT, 0, 0};
+    while (at < n) {
+        const uint8_t *r = run + at;
+        if (n - at < 4) REFUSE(VP_CUT_SHORT);
+        uint32_t length = u32(r);
+        if (length < 8 || length > 120) REFUSE(VP_WRONG_LENGTH);
+        if (n - at < length) REFUSE(VP_CUT_SHORT);
+        uint32_t kind = u16(r + 4);
+        if (kind < VP_POLYNOMIAL || kind > VP_ROOT) REFUSE(VP_WRONG_KIND);
+        uint32_t refused = check_record(r, length, kind, seen, 64, last);
+        if (refused) REFUSE(refused);
+        last = u16(r + 6), seen++, at += length;
+    }
+#undef REFUSE
+    if (room < n + 16) return (vp_written){VP_BUFFER_TOO_SHORT, 0, 0};
+    put_end(out, START, seen);
+    memcpy(out + 8, run, n);
+    put_end(out + 8 + n, END, seen);
+    return (vp_written){0, 0, n + 16};
 }

@@ -5,7 +5,7 @@
 
 enum { ONE = 16777216, NUMBER = 7 };
 
-static uint8_t record[120], sheet[136];
+static uint8_t record[VP_LONGEST_RECORD], sheet[VP_LONGEST_RECORD + VP_SHEET_ADDS];
 
 static int refused(const char *what, uint32_t number, uint64_t place) {
     if (number) printf("%s: refused %u at %lu\n", what, number, (unsigned long)place);

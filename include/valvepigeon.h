@@ -13,22 +13,6 @@
 
    Answers. Each result begins with `refused`, 0 or the number of the refusal, and `place`. When refused, every field after
    these two is 0 (a double is plus zero) and no byte of a lent buffer has changed; when not, `refused` and `place` are 0.
-
-   no.  given when
-    1   the bytes stop before a record does
-    2   a length below 8, above 120, or not that of its kind and counts; a count of coefficients or depth outside its range
-    3   unknown kind, or a start or formula record out of place; in the record writer, a kind that is no formula
-    4   start count not 1 to 64; a formula too many; an end after too few or with another count; an empty run
-    5   number not above the one before
-    6   a stored value is no word, lo above hi, mode above 2, or a root with lo below 0
-    7   the range may be left
-    8   the divisor may reach 0
-    9   bytes after the end record
-   10   argument outside lo..hi, both ends inside
-   11   no formula of that number
-   12   output buffer too short
-   13   a double that is infinite or not a number
-
    Refusals 1 to 8 give the first byte of their record as the place, 9 the first byte too many; 10 to 13 give 0. The record
    writer gives place 0 always. In the sheet writer places count from the new sheet's first byte, so the run begins at 8. */
 #ifndef VALVEPIGEON_H
@@ -40,6 +24,35 @@
 #ifdef __cplusplus
 extern "C" {
 #endif
+
+/* The version: 10000 times the first number, 100 times the second, and the third. The first moves when programs have to be
+   compiled anew (a struct or a function is not as it was), and the shared library's name moves with it; the second when something
+   is added, as a kind or a refusal; the third when neither is so. */
+#define VP_VERSION 10000
+#define VP_VERSION_STRING "1.0.0"
+
+/* Sizes: the most bytes of a record, the bytes that a sheet adds to its run of records, and the most formulas of a sheet. */
+#define VP_LONGEST_RECORD 120
+#define VP_SHEET_ADDS 16
+#define VP_MOST_FORMULAS 64
+
+/* The refusals, as `refused` has them, each with when it is given. */
+#define VP_CUT_SHORT 1            /* the bytes stop before a record does */
+#define VP_WRONG_LENGTH 2         /* a length is below 8, above 120, or not that of its kind and counts, or a count of
+                                     coefficients or a depth is outside its range */
+#define VP_WRONG_KIND 3           /* the kind is unknown, a start or formula record is out of place, or a writer is given what
+                                     is no formula */
+#define VP_WRONG_COUNT 4          /* the start's count is not 1 to 64, there is a formula too many, the end comes after too few
+                                     or has another count, or a run is empty */
+#define VP_NUMBER_NOT_ABOVE 5     /* a formula's number is not above the one before */
+#define VP_WRONG_VALUE 6          /* a stored value is no word, lo is above hi, the mode is above 2, or a root's lo is below 0 */
+#define VP_RANGE_LEFT 7           /* the word range may be left on the way to an answer */
+#define VP_DIVISOR_ZERO 8         /* the divisor may reach 0 */
+#define VP_BYTES_AFTER_END 9      /* there are bytes after the end record */
+#define VP_ARGUMENT_OUTSIDE 10    /* the argument lies outside the interval lo..hi, to which both ends belong */
+#define VP_NO_SUCH_FORMULA 11     /* no formula has that number */
+#define VP_BUFFER_TOO_SHORT 12    /* the output buffer is too short */
+#define VP_NOT_FINITE 13          /* the double is infinite or not a number */
 
 /* The kinds of formula records, as `kind` has them. */
 #define VP_POLYNOMIAL 0x0010
@@ -130,6 +143,10 @@ vp_written vp_write_record(vp_fields fields, uint8_t *out, size_t room);
    record after record, in the reader's order: a record that breaks off gives 1, a start or end record 3, a 65th record 4 at its
    own place. Then comes 12. */
 vp_written vp_write_sheet(const uint8_t *run, size_t run_length, uint8_t *out, size_t room);
+
+/* What a refusal means and what to do about it, in English, for people to read: the words may change with any version. The
+   string is the library's and stays; for 0, and for a number that is no refusal, it says so. */
+const char *vp_message(uint32_t refused);
 
 #ifdef __cplusplus
 }

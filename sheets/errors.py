@@ -11,6 +11,10 @@ from functions import FUNCTIONS
 from number import ONE
 
 
+class NoValue(Exception):
+    """The function, or the printed formula, has no value at an argument."""
+
+
 class Point(NamedTuple):
     """What is had at one argument."""
 
@@ -61,15 +65,27 @@ def unrounded(kind, parts, mode, x):
     return sqrt(x)
 
 
+def value_of(what, function, x):
+    """The function's value at x, in steps."""
+    try:
+        return function(x) * ONE
+    except (ValueError, ZeroDivisionError):
+        raise NoValue(f"{what} has no value at {x}") from None
+
+
 def points(printed, count):
     """What is had at `count` arguments."""
-    kind, formula = printed.kind, printed.formula
+    formula = printed.formula
     function = FUNCTIONS[printed.function]
     parts = [[float(value) for value in part] for part in printed.parts]
+
+    def own(x):
+        return unrounded(printed.kind, parts, formula.mode, x)
+
     for word in arguments(formula.lo, formula.hi, count):
         x = word / ONE
-        own = unrounded(kind, parts, formula.mode, x)
-        yield Point(x, function(x) * ONE, own * ONE,
+        yield Point(x, value_of(printed.function, function, x),
+                    value_of("the printed formula", own, x),
                     answer_inside(formula, word))
 
 

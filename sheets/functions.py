@@ -1,12 +1,20 @@
-"""The functions that the formulas stand for, by their names in formulas.txt.
+"""The functions that the formulas stand for, by their names in a text.
 
 They are worked in doubles by Python's math, whose error is near 1e-16 of the
-value; values here are below 16, so it stays under a millionth of a step.
+value; those of the ready formulas are below 16, so it stays under a millionth
+of a step there.
+Where a function has no value, math says so by a ValueError, or by a division
+by zero.
 """
 
 from math import (
-    acos, asin, atan, atanh, cos, cosh, exp, log, log1p, pi, sin, sinh, sqrt,
-    tan, tanh)
+    acos, asin, atan, atanh, copysign, cos, cosh, exp, log, log1p, pi, sin,
+    sinh, sqrt, tan, tanh)
+
+
+def cbrt(x):
+    return copysign(abs(x) ** (1 / 3), x)
+
 
 FUNCTIONS = {
     "sin x": sin,
@@ -18,7 +26,7 @@ FUNCTIONS = {
     "arcsin x": asin,
     "arcsin(x)/sqrt(1-x^2)": lambda x: asin(x) / sqrt(1 - x * x),
     "arccos(x)/sqrt(1-x)":
-        lambda x: acos(x) / sqrt(1 - x) if x < 1 else sqrt(2),
+        lambda x: sqrt(2) if x == 1 else acos(x) / sqrt(1 - x),
     "e^x": exp,
     "2^x": lambda x: 2 ** x,
     "10^(x/4)": lambda x: 10 ** (x / 4),
@@ -26,8 +34,8 @@ FUNCTIONS = {
     "lg((1+x)/(1-x))": lambda x: 2 * atanh(x) / log(10),
     "sqrt x": sqrt,
     "sqrt(1+x)": lambda x: sqrt(1 + x),
-    "cbrt x": lambda x: x ** (1 / 3),
-    "cbrt(1+x)": lambda x: (1 + x) ** (1 / 3),
+    "cbrt x": cbrt,
+    "cbrt(1+x)": lambda x: cbrt(1 + x),
     "sinh x": sinh,
     "cosh x": cosh,
     "tanh x": tanh,

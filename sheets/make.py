@@ -1,215 +1,187 @@
-"""Makes the ready sheets of this folder from formulas.txt.
+#!/usr/bin/env python3
+"""Makes formula sheets from a text of formulas.
 
-    python3 sheets/make.py            writes the sheets and README.md's table
-    python3 sheets/make.py --check    makes them anew and compares
+    make.py                      the ready sheets and the table in README.md,
+                                 from formulas.txt, all beside this program
+    make.py TEXT --out FOLDER    the sheets of a text of your own
+    make.py --out FOLDER         the ready sheets, in another folder
+    make.py --check              compares the ready sheets with their text
 
-The check's last line says 'N passed, M failed'; its status is 0 if M is 0.
+README.md tells how a formula is typed in. A text with faults makes nothing:
+each is told in a line, 'TEXT:LINE: what'. No file is removed, and none is
+replaced that is not as this program made it; it knows its own by a list beside
+them, TEXT.sha256, which 'sha256sum -c' reads too.
+
+The status is 0 if everything was made or holds, 1 if not, 2 for a wrong call.
 """
 
 import sys
-from math import ceil
+from argparse import SUPPRESS, ArgumentParser, RawDescriptionHelpFormatter
 from pathlib import Path
 
 HERE = Path(__file__).resolve().parent
-sys.path.append(str(HERE.parent / "oracle"))
+sys.path.insert(1, str(HERE.parent / "oracle"))
 
-from errors import arguments, measure, rounding_is_small
-from evaluation import answer_inside, evaluate
-from number import ONE
-from printed import read_formulas
-from refusal import Refused
-from sheet import MOST_FORMULAS, read
-from writing import write_record, write_sheet
+from errors import NoValue, measure
+from folder import Taken, left_over, put_sheets
+from paragraphs import Fault, Faults, decoded
+from printed import EVERYTHING, read_formulas
+from ready import (
+    Tally, check_answers, check_files, check_rounding, check_table)
+from sheet import MOST_FORMULAS
+from sheet_bytes import sheets_of
+from table import page_with_table, rounded_up
 
 README = HERE / "README.md"
-TABLE = "## The formulas\n"  # the heading of the part that is written here
-DENSE = 20001  # arguments of a measured error
-SAMPLE = 2001  # arguments of the check; all of them are among the dense ones
-COLUMNS = [
-    "sheet", "no.", "function", "kind", "interval", "source",
-    "printed bound", "own error", "bound kept", "measured error"]
-
-# Cases that paper 01 has worked by hand: number, argument, answer.
-BY_HAND = [
-    (103, 0, ONE),
-    (103, ONE, 45538158),
-    (103, -ONE, 6181080),
-    (161, 0, 0),
-    (161, 1, 4096),
-    (161, 33554432, 23726566),
-]
+READY = HERE / "formulas.txt"
+READY_HAVE = ["function", "source"]  # other texts may leave them out
+DENSE = 20001  # arguments of an error in README.md
+SAMPLE = 2001  # of any other error; all of them are among the dense ones
 
 
-# Making.
+class Wrong(Exception):
+    """What keeps something from being made, in lines."""
 
 
-def record_of(formula):
+def errors_of(printed, count):
+    """The measured errors, or None where the function is not told."""
+    if not printed.function:
+        return None
     try:
-        length, buffer = write_record(formula, bytes(120))
-    except Refused as refusal:
-        raise SystemExit(f"formula {formula.number}: {refusal}")
-    return buffer[:length]
+        return measure(printed, count)
+    except NoValue as why:
+        raise Fault(printed.lines["interval"], str(why)) from None
 
 
-def sheet_of(formulas):
-    run = b"".join(record_of(formula) for formula in formulas)
-    _, sheet = write_sheet(run, bytes(len(run) + 16))
-    return sheet
-
-
-def formulas_by_sheet(all_printed):
-    """The formulas of each sheet, by its name."""
-    by_sheet = {}
-    for printed in all_printed:
-        by_sheet.setdefault(printed.sheet, []).append(printed.formula)
-    by_sheet["all"] = [
-        printed.formula for printed in all_printed[:MOST_FORMULAS]]
-    return by_sheet
-
-
-# The table.
-
-
-def rounded_up(steps):
-    return f"{ceil(steps * 100) / 100:.2f}"
-
-
-def measured_cells(printed, count):
-    """Bound, own error, whether the bound is kept, measured error."""
-    errors = measure(printed, count)
-    own, answer = rounded_up(errors.own), rounded_up(errors.answer)
-    if errors.bound is None:
-        return ["–", own, "–", answer]
-    bound = f"{errors.bound:{'.2f' if errors.bound >= 0.01 else '.2g'}}"
-    return [bound, own, "no" if errors.bound_missed else "yes", answer]
-
-
-def printed_cells(printed):
-    formula, kind = printed.formula, printed.kind
-    if kind == "fraction":
-        kind += f", mode {formula.mode}"
-    return [printed.sheet, str(formula.number), printed.function, kind,
-            printed.interval, printed.source]
-
-
-def row(cells):
-    return "| " + " | ".join(cells) + " |\n"
-
-
-def table(all_printed, all_cells):
-    """The part of README.md from the heading on."""
-    text = TABLE + "\n" + row(COLUMNS) + "|---" * len(COLUMNS) + "|\n"
-    for printed, cells in zip(all_printed, all_cells):
-        text += row(printed_cells(printed) + cells)
-    text += "\nRemarks:\n\n"
-    for printed in all_printed:
-        if printed.remark:
-            text += f"- {printed.formula.number}: {printed.remark}\n"
-    return text
-
-
-def stored_cells(written):
-    """The measured cells of a written table, row by row."""
-    rows = [line for line in written.splitlines() if line.startswith("| ")]
-    return [line.strip("| ").split(" | ")[-4:] for line in rows[1:]]
-
-
-# The two runs.
-
-
-def make(all_printed):
-    sheets = {name: sheet_of(formulas)
-              for name, formulas in formulas_by_sheet(all_printed).items()}
-    for path in HERE.glob("*.sheet"):
-        path.unlink()
-    for name, sheet in sheets.items():
-        (HERE / f"{name}.sheet").write_bytes(sheet)
-    cells = [measured_cells(printed, DENSE) for printed in all_printed]
-    prose = README.read_text(encoding="utf-8").split(TABLE)[0]
-    README.write_text(prose + table(all_printed, cells), encoding="utf-8")
-
-
-class Tally:
-    """Counts what holds and tells what does not."""
-
-    def __init__(self):
-        self.passed = 0
-        self.failed = 0
-
-    def hold(self, what, holds):
-        if holds:
-            self.passed += 1
-        else:
-            self.failed += 1
-            print(f"does not hold: {what}")
-
-
-def refused_by_10(sheet, number, argument):
+def formulas_in(path, name, needed, count):
+    """The formulas of a text and their errors over `count` arguments."""
     try:
-        evaluate(sheet, number, argument)
-    except Refused as refusal:
-        return refusal.number == 10
-    return False
+        content = path.read_bytes()
+    except OSError as error:
+        raise Wrong(f"{name}: cannot be read: {error.strerror}") from None
+    faults = Faults()
+    text = faults.attempt(decoded, content)
+    all_printed = [] if faults else read_formulas(text, needed, faults)
+    all_errors = [faults.attempt(errors_of, printed, count)
+                  for printed in all_printed]
+    faults.sort(key=lambda fault: fault.line)
+    if faults:
+        raise Wrong(*(f"{name}:{fault.line}: {fault.what}"
+                      for fault in faults))
+    return all_printed, all_errors
 
 
-def check_sheets(tally, all_printed):
-    """The bytes, what is read back from them, and what they answer."""
-    by_sheet = formulas_by_sheet(all_printed)
-    found = {path.stem: path.read_bytes() for path in HERE.glob("*.sheet")}
-    tally.hold("no sheet too many", set(found) <= set(by_sheet))
-    for name, formulas in by_sheet.items():
-        sheet = sheet_of(formulas)
-        tally.hold(f"{name}: as made", found.get(name) == sheet)
-        tally.hold(f"{name}: as read", read(sheet) == formulas)
-        for formula in formulas:
-            number, lo, hi = formula.number, formula.lo, formula.hi
-            for x in arguments(lo, hi, 5):
-                tally.hold(f"{name} {number}: answer at {x}",
-                           evaluate(sheet, number, x)
-                           == answer_inside(formula, x))
-            tally.hold(f"{name} {number}: outside is refused",
-                       refused_by_10(sheet, number, lo - 1)
-                       and refused_by_10(sheet, number, hi + 1))
-    everything = sheet_of(by_sheet["all"])
-    for number, argument, answer in BY_HAND:
-        tally.hold(f"{number}: by hand at {argument}",
-                   evaluate(everything, number, argument) == answer)
+def written(folder, list_name, sheets, more):
+    """Writes what is not yet in the folder; gives the sheets among it."""
+    try:
+        folder.mkdir(parents=True, exist_ok=True)
+        return put_sheets(folder, list_name, sheets, more)
+    except Taken as taken:
+        raise Wrong(*(
+            f"{path}: this program did not make it, or it was changed since: "
+            "move it away, or name another folder by --out"
+            for path in taken.paths)) from None
+    except OSError as error:
+        raise Wrong(f"{folder}: cannot be written: {error.strerror}") from None
 
 
-def check_table(tally, all_printed):
-    """README.md against formulas.txt, its errors against a sample."""
-    written = TABLE + README.read_text(encoding="utf-8").split(TABLE)[1]
-    all_stored = stored_cells(written)
-    tally.hold("README.md: a row for each formula",
-               len(all_stored) == len(all_printed))
-    tally.hold("README.md: as made",
-               written == table(all_printed, all_stored))
-    for printed, stored in zip(all_printed, all_stored):
-        number = printed.formula.number
-        bound, own, kept, answer = measured_cells(printed, SAMPLE)
-        tally.hold(f"{number}: bound", bound == stored[0])
-        tally.hold(f"{number}: own error", float(own) <= float(stored[1]))
-        tally.hold(f"{number}: bound kept", kept in (stored[2], "yes"))
-        tally.hold(f"{number}: error", float(answer) <= float(stored[3]))
-        if printed.kind == "polynomial":
-            tally.hold(f"{number}: rounding",
-                       rounding_is_small(printed, SAMPLE))
+def tell(folder, sheets, all_printed, all_errors):
+    """What else to know, and a line for each formula as it was understood."""
+    for name in left_over(folder, sheets):
+        print(f"{folder / name}: not of this text; left as it is",
+              file=sys.stderr)
+    if f"{EVERYTHING}.sheet" in sheets and len(all_printed) > MOST_FORMULAS:
+        print(f"{EVERYTHING}.sheet: only the first {MOST_FORMULAS} formulas",
+              file=sys.stderr)
+    for printed, errors in zip(all_printed, all_errors):
+        line = (f"{printed.sheet}.sheet {printed.formula.number}: "
+                f"{printed.kind} on {printed.interval}")
+        if printed.parts:
+            counts = [str(len(part)) for part in printed.parts]
+            line += f", numbers {' and '.join(counts)}"
+        if errors:
+            line += (f", off {printed.function} by "
+                     f"{rounded_up(errors.answer)} steps")
+        print(line)
 
 
-def main():
-    if sys.argv[1:] not in ([], ["--check"]):
-        return __doc__
-    text = (HERE / "formulas.txt").read_text(encoding="utf-8")
-    all_printed = read_formulas(text)
-    if not sys.argv[1:]:
-        make(all_printed)
-        return 0
+def make(path, folder, all_printed, all_errors, more):
+    """Makes a text's sheets in a folder, and puts more files beside them."""
+    sheets = sheets_of(all_printed)
+    new = written(folder, f"{path.stem}.sha256", sheets, more)
+    tell(folder, sheets, all_printed, all_errors)
+    print(f"sheets {len(sheets)}, of which {len(new)} new or changed")
+    return 0
+
+
+def make_own(path, name, folder):
+    return make(path, folder, *formulas_in(path, name, [], SAMPLE), {})
+
+
+def make_ready():
+    found = formulas_in(READY, READY.name, READY_HAVE, DENSE)
+    page = page_with_table(README.read_bytes(), *found)
+    return make(READY, HERE, *found, {README.name: page})
+
+
+def check_ready():
+    """Makes the ready sheets anew and compares; a last line has the counts."""
+    all_printed, all_errors = formulas_in(
+        READY, READY.name, READY_HAVE, SAMPLE)
     tally = Tally()
-    check_sheets(tally, all_printed)
-    check_table(tally, all_printed)
+    check_files(tally, HERE, f"{READY.stem}.sha256", all_printed)
+    check_answers(tally, all_printed)
+    check_table(tally, README.read_bytes(), all_printed, all_errors)
+    check_rounding(tally, all_printed, SAMPLE)
     print(f"{tally.passed} passed, {tally.failed} failed")
     return 1 if tally.failed else 0
 
 
+def call_of(words):
+    """The words of the call; a wrong one ends here with status 2."""
+    parser = ArgumentParser(
+        prog="make.py", usage="make.py [TEXT] [--out FOLDER] | --check",
+        description=__doc__, formatter_class=RawDescriptionHelpFormatter,
+        allow_abbrev=False)
+    parser.add_argument("text", nargs="?", help=SUPPRESS)
+    parser.add_argument("--out", help=SUPPRESS)
+    parser.add_argument("--check", action="store_true", help=SUPPRESS)
+    call = parser.parse_args(words)
+    if call.check and (call.text is not None or call.out is not None):
+        parser.error("--check stands alone")
+    if call.out == "":
+        parser.error("--out names no folder")
+    if call.text is not None and call.out is None:
+        parser.error("a text of your own needs --out FOLDER")
+    return call
+
+
+def run(call):
+    if call.check:
+        return check_ready()
+    if call.out is None:
+        return make_ready()
+    if call.text is None:
+        return make_own(READY, READY.name, Path(call.out))
+    return make_own(Path(call.text), call.text, Path(call.out))
+
+
+def main(words):
+    call = call_of(words)
+    try:
+        status = run(call)
+        print(end="", flush=True)
+        return status
+    except Wrong as wrong:
+        lines = wrong.args
+    except OSError as error:
+        lines = [f"{error.filename or 'standard output'}: {error.strerror}"]
+        sys.stdout = None  # so that the end of Python does not try again
+    except KeyboardInterrupt:
+        return 130
+    print(*lines, sep="\n", file=sys.stderr)
+    return 1
+
+
 if __name__ == "__main__":
-    sys.exit(main())
+    sys.exit(main(sys.argv[1:]))

@@ -3,8 +3,6 @@
 set -u
 cd "$(dirname "$0")/.." || exit 2
 . tests/lib.sh
-room=$(mktemp -d)
-trap 'rm -rf "$room"' EXIT
 groups='by hand|count|formula|evaluate|double|interval|record|sheet'
 
 if ./build-library >"$room/log" 2>&1; then pass; else tail -n 5 "$room/log"; fail './build-library'; fi

@@ -3,8 +3,6 @@
 set -u
 cd "$(dirname "$0")/.." || exit 2
 . tests/lib.sh
-room=$(mktemp -d)
-trap 'rm -rf "$room"' EXIT
 
 prints() { # NAME EXPECTED-FILE; the input is standard input
     run_x86 target/bin/listing >"$room/got"
@@ -21,14 +19,14 @@ says() { # NAME TEXT; the input is standard input
     prints "$1" "$room/expected"
 }
 
-printf '\10\0\0\0\1\0\1\0\20\0\0\0\23\0\1\0\0\0\0\0\0\0\0\2\10\0\0\0\377\377\1\0' >"$room/paper"
-says "the paper's sheet" $'formulas 1\n1 root 0 33554432' <"$room/paper"
+paper_sheet >"$room/paper"
+says "the paper's sheet" "$paper_listing" <"$room/paper"
 says 'cut to 24' 'refused 1 at 24' < <(head -c 24 "$room/paper")
 says 'cut to 31' 'refused 1 at 24' < <(head -c 31 "$room/paper")
 says 'last 8 bytes zero' 'refused 2 at 24' < <(head -c 24 "$room/paper"; head -c 8 /dev/zero)
 says 'empty input' 'refused 1 at 0' </dev/null
 says 'a folder in place of a file' 'refused 1 at 0' <tests
-says 'a byte at a time' $'formulas 1\n1 root 0 33554432' < <(
+says 'a byte at a time' "$paper_listing" < <(
     for at in $(seq 1 32); do tail -c +"$at" "$room/paper" | head -c 1; sleep 0.01; done)
 
 run_x86 target/bin/listing <"$room/paper" 2>"$room/told" >/dev/full

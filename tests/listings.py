@@ -4,7 +4,8 @@
 
 writes NAME.in and NAME.out for each case. The listing is worked out here from
 paper 01, over the second program's reader; the program under test has no part
-in it.
+in it. Records and sheets are put together by the paper's layout, for other
+tests too.
 """
 
 import sys
@@ -30,7 +31,7 @@ def listing(content):
     try:
         formulas = read(content)
     except Refused as refusal:
-        return f"refused {refusal.number} at {refusal.place}\n"
+        return f"{refusal}\n"
     lines = [f"formulas {len(formulas)}\n"]
     for f in formulas:
         lines.append(f"{f.number} {NAMES[f.kind]} {f.lo} {f.hi}\n")
@@ -65,6 +66,13 @@ def rational(number, lo, hi, above, below):
     counts = pack("<HH", len(above), len(below))
     words = pack(f"<{len(above) + len(below)}i", *above, *below)
     return record(RATIONAL, number, lo, hi, counts + words)
+
+
+def fraction(number, lo, hi, mode, *words):
+    """Its words are b0, then a and b for each depth."""
+    head = pack("<HH", mode, len(words) // 2)
+    return record(FRACTION, number, lo, hi,
+                  head + pack(f"<{len(words)}i", *words))
 
 
 # One input for each refusal 1 to 9; the number is checked when it is made.
@@ -111,4 +119,5 @@ def main():
         (folder / f"{name}.out").write_text(listing(content))
 
 
-main()
+if __name__ == "__main__":
+    main()

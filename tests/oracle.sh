@@ -3,8 +3,6 @@
 set -u
 cd "$(dirname "$0")/.." || exit 2
 . tests/lib.sh
-room=$(mktemp -d)
-trap 'rm -rf "$room"' EXIT
 
 last=$(python3 -B oracle/check.py | tail -n 1)
 if [[ $last =~ ^([0-9]+)\ passed,\ 0\ failed$ ]] && [ "${BASH_REMATCH[1]}" -gt 0 ]; then pass; else fail "oracle/check.py: $last"; fi

@@ -1,12 +1,11 @@
 #!/usr/bin/env bash
 # docs/PROMISES.md cannot rot: every file that it cites exists, every name that it cites after a file stands in that file,
 # every must-fail edit that it cites exists, every must-fail edit that exists is cited, and so is every file of promises.
+# A row says one thing: none is longer than three lines of 110 characters.
 # In that page a citation is `crates/..` in backquotes; names in backquotes that follow on the same line belong to it.
 set -u
 cd "$(dirname "$0")/.." || exit 2
 . tests/lib.sh
-room=$(mktemp -d)
-trap 'rm -rf "$room"' EXIT
 page=docs/PROMISES.md
 
 # FILE NAME for each citation, one a line; NAME is '-' for the file alone.
@@ -50,4 +49,11 @@ done
 for edit in crates/*/must-fail/*.edit; do
     if grep -qF -- "\`$edit\`" "$page"; then pass; else fail "$edit is not cited in $page"; fi
 done
+
+long=$(python3 -c '
+import sys
+for number, line in enumerate(open(sys.argv[1], encoding="utf-8"), 1):
+    if line.startswith("|") and len(line.rstrip("\n")) > 330:
+        print(number, end=" ")' "$page") || long=unread
+if [ -z "$long" ]; then pass; else fail "$page: longer than three lines: $long"; fi
 conclude

@@ -1,19 +1,31 @@
 #!/usr/bin/env bash
-# The README's commands print what it shows: the listed sheet, and the worked example from a typed formula to its answers.
+# The README's commands print what it shows: the listed sheet, the formula that is asked, and from a typed formula to its answers,
+# which are the paper's. What it and the other pages link to, and the folders that it names, are there.
 set -u
 cd "$(dirname "$0")/.." || exit 2
 . tests/lib.sh
+root=$PWD
+export PYTHONDONTWRITEBYTECODE=1
 
-# Runs a command; what it prints stands in the README line for line, set in as a block is. The answers there are the paper's.
-shown() { # COMMAND...
-    local said
-    if said=$("$@") && [ -n "$said" ] && python3 - "$(sed 's/^/    /' <<<"$said")" <<'P'; then pass; else fail "README.md does not show what '$*' prints: $said"; fi
-import sys
-sys.exit(('\n' + sys.argv[1] + '\n') not in open('README.md', encoding='utf-8').read())
-P
+# Runs commands; the README shows each, and what it prints, one below the other.
+shows() { # COMMAND...
+    local command said=
+    for command; do said+="\$ $command"$'\n'$($command)$'\n' || fail "$command"; done
+    page_shows "$root/README.md" "${said%$'\n'}"
 }
 
-shown ./list-sheet sheets/tangent.sheet
-shown ./examples/run
-shown ./list-sheet target/desk.sheet
+page_shows README.md "$(./valvepigeon list sheets/tangent.sheet)"
+shows './valvepigeon ask sheets/tangent.sheet 54 0.5 -0.25 8388608w'
+shows './examples/run' './valvepigeon list target/desk.sheet'
+ln -s "$root/sheets" "$root/valvepigeon" "$room"
+cd "$room" || exit 2
+printf 'sheet: desk\nnumber: 7\nkind: polynomial\ninterval: [-1, 1]\ncoefficients: 1, 1, 1/2\n' >mine.txt
+shows 'cat mine.txt' 'sheets/make.py mine.txt --out desk' './valvepigeon ask desk/desk.sheet 7 0.5'
+right 'both ways to the sheet' cmp desk/desk.sheet "$root/target/desk.sheet"
+
+cd "$root" || exit 2
+for page in README.md CHANGELOG.md docs/*.md sheets/README.md; do
+    for to in $(grep -oP '\]\(\K[^)#]+' "$page"); do right "$page links to $to" test -e "$(dirname "$page")/$to"; done
+done
+for folder in $(grep -oP '^\|[^|]*\|' README.md | grep -oP '`\K[^`]+/(?=`)'); do right "README.md names $folder" test -d "$folder"; done
 conclude

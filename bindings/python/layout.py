@@ -3,9 +3,9 @@ tests/layout.c prints those of the header."""
 
 import ctypes
 
-import valvepigeon
+from valvepigeon._library import STRUCTS
 
-for name, struct in valvepigeon.STRUCTS.items():
+for name, struct in STRUCTS.items():
     print(name, ctypes.sizeof(struct))
     for field, _ in struct._fields_:
         print("%s.%s %d" % (name, field, getattr(struct, field).offset))

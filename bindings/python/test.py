@@ -1,70 +1,251 @@
-"""Calls each function of the binding, on the paper's own sheet.
+"""Tries the binding, mostly on the paper's own sheet and cases. Run it from the
+repository's root: the docstring's example opens a ready sheet."""
 
-Ends with status 0 only if all is right.
-"""
+import copy
+import dataclasses
+import decimal
+import doctest
+import mmap
+import pickle
+import struct
+import unittest
+from array import array
 
 import valvepigeon as vp
 
+ONE = 16777216
 SHEET = bytes.fromhex(
     "08000000 0100 0100 10000000 1300 0100 00000000 00000002"
     "08000000 FFFF 0100")
-ROOT = vp.Fields(vp.ROOT, 1, 0, 33554432)
+ROOT = vp.Fields(vp.ROOT, 1, 0, 2 * ONE)
+POLYNOMIAL = vp.Fields(vp.POLYNOMIAL, 7, -2 * ONE, 2 * ONE, p=3,
+                       words=(ONE, ONE, ONE // 2))
+RATIONAL = vp.Fields(vp.RATIONAL, 8, -ONE, ONE, p=3, q=3,
+                     words=(12 * ONE, 6 * ONE, ONE, 12 * ONE, -6 * ONE, ONE))
+FRACTION = vp.Fields(vp.FRACTION, 9, -ONE, ONE, p=2, mode=2,
+                     words=(0, ONE, ONE, -ONE, 3 * ONE))
 
 
-def refusal(function, *arguments):
-    """The number and place of a refusal; None if there is none."""
-    try:
-        function(*arguments)
-    except vp.Refused as refused:
-        return refused.number, refused.place
-    return None
+def load_tests(loader, tests, pattern):
+    tests.addTest(doctest.DocTestSuite(vp, optionflags=doctest.ELLIPSIS))
+    return tests
 
 
-def same(got, expected):
-    if got != expected:
-        raise SystemExit("got %r, expected %r" % (got, expected))
+class Case(unittest.TestCase):
+    def refuses(self, number, place, function, *arguments, **options):
+        with self.assertRaises(vp.Refused) as raised:
+            function(*arguments, **options)
+        self.assertEqual((raised.exception.number, raised.exception.place),
+                         (number, place))
+
+    def raises(self, error, function, *arguments):
+        given = [type(argument).__name__ for argument in arguments]
+        with self.assertRaises(error, msg=f"{function.__name__} of {given}"):
+            function(*arguments)
 
 
-def reads():
-    same(vp.count(SHEET), 1)
-    same(refusal(vp.count, b""), (1, 0))
-    same(refusal(vp.count, SHEET[:31]), (1, 24))
-    same(vp.formula(SHEET, 1), ROOT._replace(words=(0,) * 32))
-    same(refusal(vp.formula, SHEET, 2), (11, 0))
-    same(vp.interval(SHEET, 1), (0.0, 2.0))
-    same(refusal(vp.interval, SHEET, 2), (11, 0))
+class Reading(Case):
+    def test_count(self):
+        self.assertEqual(vp.count(SHEET), 1)
+        self.refuses(1, 0, vp.count, b"")
+        self.refuses(1, 24, vp.count, SHEET[:31])
+
+    def test_formula(self):
+        self.assertEqual(vp.formula(SHEET, 1), ROOT)
+        self.refuses(11, 0, vp.formula, SHEET, 2)
+
+    def test_interval(self):
+        self.assertEqual(vp.interval(SHEET, 1), vp.Ends(0.0, 2.0))
+        self.refuses(11, 0, vp.interval, SHEET, 2)
+
+    def test_evaluate(self):
+        self.assertEqual(vp.evaluate(SHEET, 1, 2 * ONE).word, 23726566)
+        self.refuses(10, 0, vp.evaluate, SHEET, 1, -1)
+        self.refuses(10, 0, vp.evaluate, SHEET, 1, -2**31)
+
+    def test_evaluate_double(self):
+        for two in (2.0, 2):
+            self.assertEqual(vp.evaluate_double(SHEET, 1, two).value,
+                             23726566 / ONE)
+        self.refuses(10, 0, vp.evaluate_double, SHEET, 1, 10**300)
+        self.refuses(13, 0, vp.evaluate_double, SHEET, 1, float("nan"))
 
 
-def evaluates():
-    same(vp.evaluate(SHEET, 1, 33554432), 23726566)
-    same(refusal(vp.evaluate, SHEET, 1, -1), (10, 0))
-    same(vp.evaluate_double(SHEET, 1, 2.0), 23726566 / 16777216)
-    same(refusal(vp.evaluate_double, SHEET, 1, float("nan")), (13, 0))
+class Writing(Case):
+    def test_record(self):
+        self.assertEqual(vp.write_record(ROOT), SHEET[8:24])
+        self.refuses(12, 0, vp.write_record, ROOT, room=15)
+        self.refuses(3, 0, vp.write_record, dataclasses.replace(ROOT, kind=1))
+
+    def test_sheet(self):
+        self.assertEqual(vp.write_sheet(SHEET[8:24]), SHEET)
+        self.refuses(4, 0, vp.write_sheet, b"")
+        self.refuses(3, 8, vp.write_sheet, SHEET)
+        self.refuses(12, 0, vp.write_sheet, SHEET[8:24], room=31)
+
+    def test_layout(self):
+        """The table of the paper, record by record."""
+        self.assertEqual(
+            vp.write_record(POLYNOMIAL),
+            struct.pack("<IHHii3i", 28, 0x10, 7, -2 * ONE, 2 * ONE,
+                        *POLYNOMIAL.words))
+        self.assertEqual(
+            vp.write_record(RATIONAL),
+            struct.pack("<IHHiiHH6i", 44, 0x11, 8, -ONE, ONE, 3, 3,
+                        *RATIONAL.words))
+        self.assertEqual(
+            vp.write_record(FRACTION),
+            struct.pack("<IHHiiHH5i", 40, 0x12, 9, -ONE, ONE, 2, 2,
+                        *FRACTION.words))
+
+    def test_there_and_back(self):
+        formulas = (ROOT, POLYNOMIAL, RATIONAL, FRACTION)
+        sheet = vp.write_sheet(b"".join(map(vp.write_record, formulas)))
+        self.assertEqual(vp.count(sheet), 4)
+        for formula in formulas:
+            self.assertEqual(vp.formula(sheet, formula.number), formula)
+        for number, argument, word in ((7, ONE // 2, 27262976),
+                                       (8, ONE, 45538158), (8, -ONE, 6181080),
+                                       (9, ONE // 2, 9151209)):
+            self.assertEqual(vp.evaluate(sheet, number, argument).word, word)
 
 
-def writes():
-    same(vp.write_record(ROOT), SHEET[8:24])
-    same(refusal(vp.write_record, ROOT, 15), (12, 0))
-    same(refusal(vp.write_record, ROOT._replace(kind=1)), (3, 0))
-    same(vp.write_sheet(SHEET[8:24]), SHEET)
-    same(refusal(vp.write_sheet, b""), (4, 0))
-    same(refusal(vp.write_sheet, SHEET), (3, 8))
-    same(refusal(vp.write_sheet, SHEET[8:24], 31), (12, 0))
+class Sheets(Case):
+    """A sheet is bytes-like, and its length counts in bytes."""
 
+    def test_bytes_like(self):
+        mapped = mmap.mmap(-1, 32)
+        mapped.write(SHEET)
+        spread = b"".join(bytes((byte, 255)) for byte in SHEET)
+        for sheet in (bytearray(SHEET), memoryview(SHEET), array("I", SHEET),
+                      memoryview(b"xx" + SHEET + b"yy")[2:-2],
+                      memoryview(bytearray(b"xx" + SHEET + b"yy"))[2:-2],
+                      memoryview(SHEET).cast("B", (4, 8)), mapped,
+                      memoryview(spread)[::2], memoryview(SHEET[::-1])[::-1],
+                      memoryview(bytearray(spread))[::2]):
+            self.assertEqual(vp.evaluate(sheet, 1, 2 * ONE).word, 23726566)
+        self.assertEqual(vp.write_sheet(array("I", SHEET[8:24])), SHEET)
 
-def cut_off():
-    """A number that C could not be given is no other number."""
-    for call in (lambda: vp.formula(SHEET, 65537),
-                 lambda: vp.evaluate(SHEET, 1, 1 << 32),
-                 lambda: vp.write_record(ROOT._replace(number=65537))):
+    def test_length_in_bytes(self):
+        self.refuses(1, 24, vp.count, array("I", SHEET[:28]))
+        self.refuses(9, 32, vp.count, array("I", SHEET + bytes(4)))
+
+    def test_empty(self):
+        for sheet in (bytearray(), memoryview(b""), array("I")):
+            self.refuses(1, 0, vp.count, sheet)
+
+    def test_anything_else(self):
+        for sheet in (5, True, 1.5, "sheet", {}, [8, 0], None):
+            self.raises(TypeError, vp.count, sheet)
+            self.raises(TypeError, vp.formula, sheet, 1)
+            self.raises(TypeError, vp.interval, sheet, 1)
+            self.raises(TypeError, vp.evaluate, sheet, 1, 0)
+            self.raises(TypeError, vp.evaluate_double, sheet, 1, 0.0)
+            self.raises(TypeError, vp.write_sheet, sheet)
+
+    def test_given_back(self):
+        """After a refusal, while it is held, the caller's buffer is free."""
+        sheet = bytearray(SHEET[:24])
         try:
-            call()
-        except OverflowError:
-            continue
-        raise SystemExit("a number was cut off")
+            vp.count(sheet)
+        except vp.Refused as refused:
+            self.assertEqual(refused.place, 24)
+            sheet.extend(SHEET[24:])
+        self.assertEqual(vp.count(sheet), 1)
 
 
-reads()
-evaluates()
-writes()
-cut_off()
+class Numbers(Case):
+    """No number is cut or converted on its way to C."""
+
+    no_ints = (1.0, True, "1", None, decimal.Decimal(1))
+
+    def test_formula_number(self):
+        for function, more in ((vp.formula, ()), (vp.interval, ()),
+                               (vp.evaluate, (0,)),
+                               (vp.evaluate_double, (0.0,))):
+            for number in self.no_ints:
+                self.raises(TypeError, function, SHEET, number, *more)
+            for number in (-1, 65536, 65537, 10**5000):
+                self.raises(OverflowError, function, SHEET, number, *more)
+
+    def test_argument(self):
+        for argument in self.no_ints:
+            self.raises(TypeError, vp.evaluate, SHEET, 1, argument)
+        for argument in (2**31, -2**31 - 1, 2**32, 10**5000):
+            self.raises(OverflowError, vp.evaluate, SHEET, 1, argument)
+
+    def test_double(self):
+        for argument in self.no_ints[1:]:
+            self.raises(TypeError, vp.evaluate_double, SHEET, 1, argument)
+        for argument in (10**400, -10**400):
+            self.raises(OverflowError, vp.evaluate_double, SHEET, 1, argument)
+
+    def test_fields(self):
+        for name in ("kind", "number", "lo", "hi", "p", "q", "mode"):
+            for value in self.no_ints:
+                self.raises(TypeError, vp.write_record,
+                            dataclasses.replace(ROOT, **{name: value}))
+            self.raises(OverflowError, vp.write_record,
+                        dataclasses.replace(ROOT, **{name: 2**32}))
+
+    def test_room(self):
+        for write, content in ((vp.write_record, ROOT),
+                               (vp.write_sheet, SHEET[8:24])):
+            with self.assertRaises(TypeError):
+                write(content, room=120.0)
+            with self.assertRaises(OverflowError):
+                write(content, room=-1)
+
+
+class Words(Case):
+    def test_too_few_or_too_many(self):
+        for formula in (ROOT, POLYNOMIAL, RATIONAL, FRACTION):
+            for words in (formula.words + (0,), formula.words[1:] or (0, 0),
+                          (0,) * 32):
+                self.raises(ValueError, vp.write_record,
+                            dataclasses.replace(formula, words=words))
+
+    def test_no_words(self):
+        for words in ((1.0,), (True,), "1", None, 1):
+            self.raises(TypeError, vp.write_record, dataclasses.replace(
+                POLYNOMIAL, p=1, words=words))
+        self.raises(OverflowError, vp.write_record, dataclasses.replace(
+            POLYNOMIAL, p=1, words=(2**31,)))
+        self.raises(TypeError, vp.write_record, (vp.ROOT, 1, 0, 0))
+
+    def test_refused(self):
+        for count in (17, 40):
+            self.refuses(2, 0, vp.write_record, dataclasses.replace(
+                POLYNOMIAL, p=count, words=(1,) * count))
+            self.refuses(3, 0, vp.write_record, dataclasses.replace(
+                POLYNOMIAL, kind=0xFFFF, words=(1,) * count))
+        self.refuses(6, 0, vp.write_record, dataclasses.replace(
+            POLYNOMIAL, p=1, words=(-2**31,)))
+
+
+class Refusals(Case):
+    def test_pickled_and_copied(self):
+        with self.assertRaises(vp.Refused) as raised:
+            vp.count(SHEET[:31])
+        refused = raised.exception
+        others = [pickle.loads(pickle.dumps(refused, protocol))
+                  for protocol in range(pickle.HIGHEST_PROTOCOL + 1)]
+        for other in others + [copy.copy(refused), copy.deepcopy(refused)]:
+            self.assertIs(type(other), vp.Refused)
+            self.assertEqual(vars(other), vars(refused))
+            self.assertEqual(str(other), str(refused))
+
+    def test_message_of_the_library(self):
+        with self.assertRaises(vp.Refused) as raised:
+            vp.count(b"")
+        self.assertRegex(raised.exception.message, r"[a-z].*[.]$")
+
+    def test_message(self):
+        refused = vp.Refused(1, 24, "The file was cut.")
+        self.assertEqual(vars(refused), {"number": 1, "place": 24,
+                                         "message": "The file was cut."})
+        self.assertEqual(str(refused), "refused 1 at 24: The file was cut.")
+
+
+if __name__ == "__main__":
+    unittest.main()

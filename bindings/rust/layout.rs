@@ -1,9 +1,10 @@
 //! Prints each struct of the binding and where its fields stand, as tests/layout.c prints those of the header.
 #[allow(dead_code)]
-mod valvepigeon;
+#[path = "src/raw.rs"]
+mod raw;
 
+use raw::*;
 use std::mem::{offset_of, size_of};
-use valvepigeon::raw::*;
 
 macro_rules! layout {
     ($name:literal, $type:ty: $($field:ident)*) => {

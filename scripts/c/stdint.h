@@ -1,4 +1,4 @@
-/* What the tests and examples need of <stdint.h>: the kit's compiler comes without headers. */
+/* What the C here needs of <stdint.h>: the kit's compiler comes without headers. */
 #ifndef KIT_STDINT_H
 #define KIT_STDINT_H
 typedef __UINT8_TYPE__ uint8_t;
@@ -6,5 +6,7 @@ typedef __UINT16_TYPE__ uint16_t;
 typedef __UINT32_TYPE__ uint32_t;
 typedef __UINT64_TYPE__ uint64_t;
 typedef __INT32_TYPE__ int32_t;
+#define INT32_MIN (-__INT32_MAX__ - 1)
+#define UINT16_MAX __UINT16_MAX__
 #define UINT64_MAX __UINT64_MAX__
 #endif

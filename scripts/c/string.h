@@ -1,7 +1,13 @@
-/* What the tests and examples need of <string.h>: the kit's compiler comes without headers. */
+/* What the C here needs of <string.h>: the kit's compiler comes without headers. */
 #ifndef KIT_STRING_H
 #define KIT_STRING_H
 #include <stddef.h>
 int memcmp(const void *, const void *, size_t);
 void *memcpy(void *, const void *, size_t);
+void *memset(void *, int, size_t);
+int strcmp(const char *, const char *);
+int strncmp(const char *, const char *, size_t);
+size_t strlen(const char *);
+size_t strspn(const char *, const char *);
+char *strerror(int);
 #endif

@@ -1,0 +1,63 @@
+"""Prints a table of what bench/run has measured, with the bounds.
+
+    python3 bench/table.py counts|times FOLDER COMPILER...
+
+For each compiler of plain C the folder has COMPILER.counts, the rows' names and
+numbers of calls as bench/measure.c prints them, with COMPILER.insns, the counts
+of bench/insn.c; or COMPILER.times. The status is 1 where a ratio is above its
+bound.
+"""
+
+import sys
+from pathlib import Path
+
+
+def counted(folder, compiler):
+    """Each row's name and the instructions of its mean call, of C and of ours."""
+    insns = iter((folder / f"{compiler}.insns").read_text().split())
+    for row in (folder / f"{compiler}.counts").read_text().splitlines():
+        name, calls = row.split("\t")
+        pairs = [(int(next(insns)), int(next(insns))) for _ in range(int(calls))]
+        yield name, *(sum(side) / len(pairs) for side in zip(*pairs))
+
+
+def timed(folder, compiler):
+    """Each row's name and the ns of its best slice's call, of C and of ours."""
+    for row in (folder / f"{compiler}.times").read_text().splitlines():
+        name, plain, ours = row.split("\t")
+        yield name, float(plain), float(ours)
+
+
+def bound(what, compiler, name):
+    """The largest ratio that a row may have, or None."""
+    if what == "times":
+        return 1.05 if name.startswith("reading") else None
+    if name.startswith(("reading", "writing", "polynomial")):
+        return {"clang": 1.00, "gcc": 1.05}[compiler]
+    return {"clang": 1.15, "gcc": None}[compiler]
+
+
+def main(what, folder, *compilers):
+    first = second = " " * 24
+    lines = {}
+    above = False
+    for compiler in compilers:
+        first += f"    {f'C by {compiler} -O3':38}"
+        second += f"{'C':>9}{'ours':>10}{'ratio':>8}{'at most':>9}{'':6}"
+        for name, plain, ours in {"counts": counted, "times": timed}[what](
+            Path(folder), compiler
+        ):
+            ratio = ours / plain
+            most = bound(what, compiler, name)
+            mark = " above" if most and ratio > most else ""
+            above = above or mark != ""
+            lines.setdefault(name, f"{name:24}")
+            lines[name] += f"{plain:9.1f}{ours:10.1f}{ratio:8.3f}"
+            lines[name] += f"{f'{most:.2f}' if most else '':>9}{mark:6}"
+    for line in first, second, *lines.values():
+        print(line.rstrip())
+    return 1 if above else 0
+
+
+if __name__ == "__main__":
+    sys.exit(main(*sys.argv[1:]))

@@ -1,0 +1,246 @@
+"""Valvepigeon from Python: formula sheets, and the fixed-point arithmetic behind them.
+
+A word is a whole number from -2147483647 to 2147483647, and stands for itself
+divided by 2^24. Every function takes any bytes; it gives its answer or raises
+`Refused`. With the repository's own sheets:
+
+    >>> import valvepigeon
+    >>> with open("sheets/square-root.sheet", "rb") as file:
+    ...     sheet = file.read()
+    >>> valvepigeon.count(sheet)
+    4
+    >>> valvepigeon.evaluate(sheet, 161, 33554432).word
+    23726566
+    >>> valvepigeon.evaluate_double(sheet, 161, 2.0).value
+    1.4142135381698608
+    >>> valvepigeon.interval(sheet, 161)
+    Ends(low=0.0, high=2.0)
+    >>> valvepigeon.evaluate_double(sheet, 161, 2.5)
+    Traceback (most recent call last):
+        ...
+    valvepigeon.Refused: refused 10 at 0: ...
+
+A sheet is any bytes-like object, and its length counts in bytes. A number is an
+int, the argument of `evaluate_double` an int or a float; anything else, a bool
+too, is a TypeError. A number that C could not be given (a formula number
+outside 0..65535, say) is an OverflowError.
+
+`pip install ./bindings/python` installs it. The shared library, which
+`./build-library` makes on x86-64 Linux, is looked for where the variable
+VALVEPIGEON_LIBRARY says, else beside this module, in the repository or release
+that it stands in, and where the system's loader looks.
+"""
+
+from __future__ import annotations
+
+import ctypes
+import sys
+from dataclasses import dataclass
+from typing import TYPE_CHECKING, Any, Optional, Tuple
+
+from . import _library
+
+if TYPE_CHECKING:
+    from _typeshed import ReadableBuffer
+
+# The kinds of formula records.
+POLYNOMIAL, RATIONAL, FRACTION, ROOT = 0x0010, 0x0011, 0x0012, 0x0013
+
+# The longest record and what a sheet adds to its run, in bytes; a sheet's limit.
+LONGEST_RECORD, SHEET_ADDS, MOST_FORMULAS = 120, 16, 64
+
+# The numbers of the refusals; `message` says what each means.
+CUT_SHORT, WRONG_LENGTH, WRONG_KIND, WRONG_COUNT = 1, 2, 3, 4
+NUMBER_NOT_ABOVE, WRONG_VALUE, RANGE_LEFT, DIVISOR_ZERO = 5, 6, 7, 8
+BYTES_AFTER_END, ARGUMENT_OUTSIDE, NO_SUCH_FORMULA = 9, 10, 11
+BUFFER_TOO_SHORT, NOT_FINITE = 12, 13
+
+
+class Refused(Exception):
+    """A refusal: its `number`, its `place`, and as `message` a sentence that
+    says what is wrong and what to do."""
+
+    def __init__(self, number: int, place: int, message: str = "") -> None:
+        super().__init__(number, place, message)
+        self.number = number
+        self.place = place
+        self.message = message
+
+    def __str__(self) -> str:
+        said = f"refused {self.number} at {self.place}"
+        return f"{said}: {self.message}" if self.message else said
+
+
+@dataclass(frozen=True)
+class Fields:
+    """A formula's fields; a field that the kind has not is 0.
+
+    p is the polynomial's count, the numerator's count or the depth, q the
+    divisor's count. `words` are the coefficients in stored order, as many as
+    the counts ask for: p of a polynomial, p + q of a rational, 2 p + 1 of a
+    fraction, none of a root.
+    """
+
+    kind: int
+    number: int
+    lo: int
+    hi: int
+    p: int = 0
+    q: int = 0
+    mode: int = 0
+    words: Tuple[int, ...] = ()
+
+
+@dataclass(frozen=True)
+class Worked:
+    """A formula's answer, a word."""
+
+    word: int
+
+
+@dataclass(frozen=True)
+class Shown:
+    """A formula's answer as a double: exactly the answer word divided by 2^24."""
+
+    value: float
+
+
+@dataclass(frozen=True)
+class Ends:
+    """A formula's interval: each end exactly its word divided by 2^24."""
+
+    low: float
+    high: float
+
+
+# ---- what C is given
+
+def _int(value: int) -> int:
+    if isinstance(value, bool) or not isinstance(value, int):
+        raise TypeError(f"an int is asked for, not {type(value).__name__}")
+    return value
+
+
+def _within(value: int, low: int, high: int) -> int:
+    """The value, if C can be given it: ctypes would cut off its upper bits."""
+    if not low <= _int(value) <= high:
+        raise OverflowError(f"an int from {low} to {high} is asked for")
+    return value
+
+
+def _u16(value: int) -> int:
+    return _within(value, 0, 65535)
+
+
+def _i32(value: int) -> int:
+    return _within(value, -2147483648, 2147483647)
+
+
+def _double(value: float) -> float:
+    return value if isinstance(value, float) else float(_int(value))
+
+
+def _asked_for(kind: int, p: int, q: int) -> Optional[int]:
+    """How many words the counts ask for; None where the kind is no formula's."""
+    return {POLYNOMIAL: p, RATIONAL: p + q, FRACTION: 2 * p + 1,
+            ROOT: 0}.get(kind)
+
+
+def _struct(fields: Fields) -> _library.FieldsStruct:
+    if not isinstance(fields, Fields):
+        raise TypeError(f"Fields are asked for, not {type(fields).__name__}")
+    kind, p, q = _u16(fields.kind), _u16(fields.p), _u16(fields.q)
+    words = [_i32(word) for word in fields.words]
+    asked_for = _asked_for(kind, p, q)
+    if asked_for is not None and len(words) != asked_for:
+        raise ValueError(
+            f"{len(words)} words, where the counts ask for {asked_for}")
+    # More than fit go with a kind or count that is refused before any is read.
+    return _library.FieldsStruct(
+        kind, _u16(fields.number), _i32(fields.lo), _i32(fields.hi), p, q,
+        _u16(fields.mode),
+        (ctypes.c_int32 * _library.WORDS)(*words[:_library.WORDS]))
+
+
+def _start(view: memoryview) -> Any:
+    """A view's bytes as ctypes takes them: the address of what may be written,
+    a bytes object itself, and a copy of anything else."""
+    if not view.c_contiguous:
+        return view.tobytes()
+    if not view.readonly:
+        return ctypes.addressof((ctypes.c_char * 0).from_buffer(view))
+    if isinstance(view.obj, bytes) and view.nbytes == len(view.obj):
+        return view.obj
+    return view.tobytes()
+
+
+def _called(function: str, *arguments: Any) -> Any:
+    """Calls a function of the library; a refusal is raised."""
+    result = getattr(_library.loaded(), function)(*arguments)
+    if result.refused:
+        raise Refused(result.refused, result.place,
+                      _library.message(result.refused))
+    return result
+
+
+def _lent(function: str, content: ReadableBuffer, *arguments: Any) -> Any:
+    """Calls a function that is lent bytes, for as long as the call takes."""
+    with memoryview(content) as view:
+        return _called(function, _start(view), view.nbytes, *arguments)
+
+
+# ---- the seven functions
+
+def count(sheet: ReadableBuffer) -> int:
+    """How many formulas the sheet has. Refusals 1 to 9."""
+    return _lent("vp_count", sheet).count
+
+
+def formula(sheet: ReadableBuffer, number: int) -> Fields:
+    """The sheet's formula of that number. Refusals 1 to 9, then 11."""
+    f = _lent("vp_formula", sheet, _u16(number)).fields
+    return Fields(f.kind, f.number, f.lo, f.hi, f.p, f.q, f.mode,
+                  tuple(f.words[:_asked_for(f.kind, f.p, f.q)]))
+
+
+def evaluate(sheet: ReadableBuffer, number: int, argument: int) -> Worked:
+    """The answer at a word. Refusals 1 to 9, then 11, 10."""
+    return Worked(_lent("vp_evaluate", sheet, _u16(number),
+                        _i32(argument)).word)
+
+
+def evaluate_double(sheet: ReadableBuffer, number: int,
+                    argument: float) -> Shown:
+    """The answer at a double. Refusals 1 to 9, then 11, 13, 10."""
+    return Shown(_lent("vp_evaluate_double", sheet, _u16(number),
+                       _double(argument)).value)
+
+
+def interval(sheet: ReadableBuffer, number: int) -> Ends:
+    """A formula's interval. Refusals 1 to 9, then 11."""
+    ends = _lent("vp_interval", sheet, _u16(number))
+    return Ends(ends.low, ends.high)
+
+
+def write_record(fields: Fields, *, room: int = LONGEST_RECORD) -> bytes:
+    """The bytes of a formula record, written to a buffer of so many bytes.
+
+    Another number of words than the counts ask for is a ValueError. Refusals
+    3; 2; 6; 7 or 8; then 12, all at place 0.
+    """
+    out = ctypes.create_string_buffer(_within(room, 0, sys.maxsize))
+    length = _called("vp_write_record", _struct(fields), out, room).length
+    return out[:length]
+
+
+def write_sheet(run: ReadableBuffer, *, room: Optional[int] = None) -> bytes:
+    """A start, the run of records and an end, in a buffer of so many bytes.
+
+    Without a room there is enough. Places count from the new sheet's first
+    byte, so the run begins at 8.
+    """
+    if room is None:
+        room = memoryview(run).nbytes + SHEET_ADDS
+    out = ctypes.create_string_buffer(_within(room, 0, sys.maxsize))
+    length = _lent("vp_write_sheet", run, out, room).length
+    return out[:length]

@@ -1,0 +1,181 @@
+//! Valvepigeon from Rust: formula sheets, and the fixed-point arithmetic behind them.
+//!
+//! A word is a whole number from -2147483647 to 2147483647, and stands for itself divided by 2^24. Every function takes any
+//! bytes, numbers and arguments, and ends with an answer or a [`Refusal`].
+//!
+//! ```
+//! # fn main() -> Result<(), valvepigeon::Refusal> {
+//! use valvepigeon::{evaluate_double, write_record, write_sheet, Fields, LONGEST_RECORD, ROOT, SHEET_ADDS};
+//!
+//! let root = Fields { kind: ROOT, number: 1, lo: 0, hi: 33554432, ..Fields::default() };
+//! let mut record = [0; LONGEST_RECORD];
+//! let length = write_record(&root, &mut record)?;
+//! let mut sheet = vec![0; length + SHEET_ADDS];
+//! write_sheet(&record[..length], &mut sheet)?;
+//! assert_eq!(evaluate_double(&sheet, 1, 2.0)?.value, 1.41421353816986083984375);
+//! assert_eq!(evaluate_double(&sheet, 1, 2.5).unwrap_err().number, valvepigeon::ARGUMENT_OUTSIDE);
+//! # Ok(())
+//! # }
+//! ```
+//!
+//! The library is for x86-64 Linux. `./build-library` makes it in the repository, where a package that names this one by its
+//! path finds it: `valvepigeon = { path = ".../bindings/rust" }`. Elsewhere the variable `VALVEPIGEON_LIBRARY_DIR` names the
+//! folder of `libvalvepigeon.a`, or pkg-config knows it.
+
+#![warn(missing_docs)]
+
+mod raw;
+
+pub use raw::Fields;
+use std::fmt;
+
+/// The kind of a polynomial's record, in [`Fields::kind`].
+pub const POLYNOMIAL: u16 = 0x0010;
+/// The kind of a rational's record.
+pub const RATIONAL: u16 = 0x0011;
+/// The kind of a continued fraction's record.
+pub const FRACTION: u16 = 0x0012;
+/// The kind of a root's record.
+pub const ROOT: u16 = 0x0013;
+
+/// No record is longer: a buffer of so many bytes is enough for any.
+pub const LONGEST_RECORD: usize = 120;
+/// What a sheet adds to its run of records, in bytes.
+pub const SHEET_ADDS: usize = 16;
+/// How many formulas a sheet has at most.
+pub const MOST_FORMULAS: usize = 64;
+
+/// Refusal 1; [`Refusal::message`] says what it means.
+pub const CUT_SHORT: u32 = 1;
+/// Refusal 2.
+pub const WRONG_LENGTH: u32 = 2;
+/// Refusal 3.
+pub const WRONG_KIND: u32 = 3;
+/// Refusal 4.
+pub const WRONG_COUNT: u32 = 4;
+/// Refusal 5.
+pub const NUMBER_NOT_ABOVE: u32 = 5;
+/// Refusal 6.
+pub const WRONG_VALUE: u32 = 6;
+/// Refusal 7.
+pub const RANGE_LEFT: u32 = 7;
+/// Refusal 8.
+pub const DIVISOR_ZERO: u32 = 8;
+/// Refusal 9.
+pub const BYTES_AFTER_END: u32 = 9;
+/// Refusal 10.
+pub const ARGUMENT_OUTSIDE: u32 = 10;
+/// Refusal 11.
+pub const NO_SUCH_FORMULA: u32 = 11;
+/// Refusal 12.
+pub const BUFFER_TOO_SHORT: u32 = 12;
+/// Refusal 13.
+pub const NOT_FINITE: u32 = 13;
+
+/// A refusal: its number and its place.
+#[derive(Clone, Copy, Debug, PartialEq, Eq)]
+pub struct Refusal {
+    /// Its number, one of the constants of this crate.
+    pub number: u32,
+    /// The first byte of the record at fault, or the first byte too many; 0 where no byte is at fault.
+    pub place: u64,
+}
+
+impl Refusal {
+    /// What is wrong and what to do, in a sentence.
+    pub fn message(&self) -> &'static str {
+        // The library gives each number a text of its own that stays, and ends in a zero byte.
+        let text = unsafe { std::ffi::CStr::from_ptr(raw::vp_message(self.number)) };
+        text.to_str().unwrap_or_default()
+    }
+}
+
+impl fmt::Display for Refusal {
+    fn fmt(&self, f: &mut fmt::Formatter<'_>) -> fmt::Result {
+        write!(f, "refused {} at {}: {}", self.number, self.place, self.message())
+    }
+}
+
+impl std::error::Error for Refusal {}
+
+/// A formula's answer, a word.
+#[derive(Clone, Copy, Debug, PartialEq, Eq)]
+#[non_exhaustive]
+pub struct Worked {
+    /// The answer.
+    pub word: i32,
+}
+
+/// A formula's answer as a double.
+#[derive(Clone, Copy, Debug, PartialEq)]
+#[non_exhaustive]
+pub struct Shown {
+    /// Exactly the answer word divided by 2^24; zero is plus zero.
+    pub value: f64,
+}
+
+/// A formula's interval, each end exactly its word divided by 2^24.
+#[derive(Clone, Copy, Debug, PartialEq)]
+#[non_exhaustive]
+pub struct Ends {
+    /// The low end.
+    pub low: f64,
+    /// The high end.
+    pub high: f64,
+}
+
+fn answer<T>(refused: u32, place: u64, value: T) -> Result<T, Refusal> {
+    if refused == 0 {
+        Ok(value)
+    } else {
+        Err(Refusal { number: refused, place })
+    }
+}
+
+// In each call below a slice lends its own pointer and length, and no function keeps a pointer, or reads or writes outside
+// what it is lent.
+
+/// How many formulas the sheet has. Refusals 1 to 9.
+pub fn count(sheet: &[u8]) -> Result<u16, Refusal> {
+    let r = unsafe { raw::vp_count(sheet.as_ptr(), sheet.len()) };
+    answer(r.refused, r.place, r.count)
+}
+
+/// The sheet's formula of that number. Refusals 1 to 9, then 11.
+pub fn formula(sheet: &[u8], number: u16) -> Result<Fields, Refusal> {
+    let r = unsafe { raw::vp_formula(sheet.as_ptr(), sheet.len(), number) };
+    answer(r.refused, r.place, r.fields)
+}
+
+/// What the formula of that number answers at a word. Refusals 1 to 9, then 11, 10.
+pub fn evaluate(sheet: &[u8], number: u16, argument: i32) -> Result<Worked, Refusal> {
+    let r = unsafe { raw::vp_evaluate(sheet.as_ptr(), sheet.len(), number, argument) };
+    answer(r.refused, r.place, Worked { word: r.word })
+}
+
+/// What the formula of that number answers at a double. Refusals 1 to 9, then 11, 13, 10.
+pub fn evaluate_double(sheet: &[u8], number: u16, argument: f64) -> Result<Shown, Refusal> {
+    let r = unsafe { raw::vp_evaluate_double(sheet.as_ptr(), sheet.len(), number, argument) };
+    answer(r.refused, r.place, Shown { value: r.value })
+}
+
+/// The interval of the formula of that number. Refusals 1 to 9, then 11.
+pub fn interval(sheet: &[u8], number: u16) -> Result<Ends, Refusal> {
+    let r = unsafe { raw::vp_interval(sheet.as_ptr(), sheet.len(), number) };
+    answer(r.refused, r.place, Ends { low: r.low, high: r.high })
+}
+
+/// Writes a formula record to the start of `out` and gives its length. Bytes beyond it stay. Refusals 3; 2; 6; 7 or 8; then 12,
+/// all at place 0.
+pub fn write_record(fields: &Fields, out: &mut [u8]) -> Result<usize, Refusal> {
+    let r = unsafe { raw::vp_write_record(*fields, out.as_mut_ptr(), out.len()) };
+    answer(r.refused, r.place, r.length as usize)
+}
+
+/// Writes a start, the run of records and an end to the start of `out`, and gives the sheet's length, the run's plus
+/// [`SHEET_ADDS`]. Bytes beyond it stay. Places count from the new sheet's first byte, so the run begins at 8. Refusals 1 to 8,
+/// then 12.
+pub fn write_sheet(run: &[u8], out: &mut [u8]) -> Result<usize, Refusal> {
+    let r = unsafe { raw::vp_write_sheet(run.as_ptr(), run.len(), out.as_mut_ptr(), out.len()) };
+    answer(r.refused, r.place, r.length as usize)
+}

@@ -1,0 +1,67 @@
+//! Calls each function of the binding, on the paper's own sheet.
+
+use valvepigeon::*;
+
+const SHEET: [u8; 32] = [
+    8, 0, 0, 0, 1, 0, 1, 0, 16, 0, 0, 0, 0x13, 0, 1, 0, 0, 0, 0, 0, 0, 0, 0, 2, 8, 0, 0, 0, 0xff, 0xff, 1, 0,
+];
+
+fn root() -> Fields {
+    Fields { kind: ROOT, number: 1, hi: 33554432, ..Fields::default() }
+}
+
+fn refused<T>(number: u32, place: u64) -> Result<T, Refusal> {
+    Err(Refusal { number, place })
+}
+
+#[test]
+fn counts() {
+    assert_eq!(count(&SHEET), Ok(1));
+    assert_eq!(count(&[]), refused(1, 0));
+    assert_eq!(count(&SHEET[..31]), refused(1, 24));
+}
+
+#[test]
+fn finds() {
+    assert_eq!(formula(&SHEET, 1), Ok(root()));
+    assert_eq!(formula(&SHEET, 2), refused(11, 0));
+    let ends = interval(&SHEET, 1).unwrap();
+    assert_eq!((ends.low, ends.high), (0.0, 2.0));
+    assert_eq!(interval(&SHEET, 2), refused(11, 0));
+}
+
+#[test]
+fn evaluates() {
+    assert_eq!(evaluate(&SHEET, 1, 33554432).unwrap().word, 23726566);
+    assert_eq!(evaluate(&SHEET, 1, -1), refused(10, 0));
+    assert_eq!(evaluate(&SHEET, 1, i32::MIN), refused(10, 0));
+    assert_eq!(evaluate_double(&SHEET, 1, 2.0).unwrap().value, 23726566.0 / 16777216.0);
+    assert_eq!(evaluate_double(&SHEET, 1, f64::NAN), refused(13, 0));
+}
+
+#[test]
+fn writes_a_record() {
+    let mut out = [7u8; LONGEST_RECORD];
+    assert_eq!(write_record(&root(), &mut out), Ok(16));
+    assert_eq!(out[..16], SHEET[8..24]);
+    assert!(out[16..].iter().all(|&b| b == 7));
+    assert_eq!(write_record(&root(), &mut out[..15]), refused(12, 0));
+    assert_eq!(write_record(&Fields { kind: 1, ..root() }, &mut out), refused(3, 0));
+}
+
+#[test]
+fn writes_a_sheet() {
+    let mut out = [7u8; 33];
+    assert_eq!(write_sheet(&SHEET[8..24], &mut out), Ok(32));
+    assert_eq!((&out[..32], out[32]), (&SHEET[..], 7));
+    assert_eq!(write_sheet(&[], &mut out), refused(4, 0));
+    assert_eq!(write_sheet(&SHEET, &mut out), refused(3, 8));
+    assert_eq!(write_sheet(&SHEET[8..24], &mut out[..31]), refused(12, 0));
+}
+
+#[test]
+fn says_what_to_do() {
+    let error: Box<dyn std::error::Error> = Box::new(count(&SHEET[..31]).unwrap_err());
+    let said = error.to_string();
+    assert!(said.starts_with("refused 1 at 24: ") && said.ends_with('.'), "{said}");
+}

@@ -1,0 +1,99 @@
+"""The check of the ready sheets: their bytes, their answers, their table."""
+
+from errors import arguments, rounding_is_small
+from evaluation import answer_inside, evaluate
+from folder import content_at, list_of
+from number import ONE
+from refusal import Refused
+from sheet import MOST_FORMULAS, read
+from sheet_bytes import formulas_by_sheet, sheet_of, sheets_of
+from table import HEADING, measured_cells, stored_cells, table
+
+# Cases that paper 01 has worked by hand: number, argument, answer.
+BY_HAND = [
+    (103, 0, ONE),
+    (103, ONE, 45538158),
+    (103, -ONE, 6181080),
+    (161, 0, 0),
+    (161, 1, 4096),
+    (161, 33554432, 23726566),
+]
+
+
+class Tally:
+    """Counts what holds and tells what does not."""
+
+    def __init__(self):
+        self.passed = 0
+        self.failed = 0
+
+    def hold(self, what, holds):
+        if holds:
+            self.passed += 1
+        else:
+            self.failed += 1
+            print(f"does not hold: {what}")
+
+
+def asked(sheet, number, argument):
+    """The answer word, or the refusal in words."""
+    try:
+        return evaluate(sheet, number, argument)
+    except Refused as refusal:
+        return str(refusal)
+
+
+def check_files(tally, folder, list_name, all_printed):
+    """The files in the folder, byte by byte."""
+    sheets = sheets_of(all_printed)
+    found = {path.name: path.read_bytes() for path in folder.glob("*.sheet")}
+    tally.hold("no sheet too many", set(found) <= set(sheets))
+    for name, sheet in sheets.items():
+        tally.hold(f"{name}: as made", found.get(name) == sheet)
+    tally.hold(f"{list_name}: as made",
+               content_at(folder / list_name) == list_of(sheets))
+
+
+def check_answers(tally, all_printed):
+    """What is read back from the sheets, and what they answer."""
+    for name, formulas in formulas_by_sheet(all_printed).items():
+        sheet = sheet_of(formulas)
+        tally.hold(f"{name}: as read", read(sheet) == formulas)
+        for formula in formulas:
+            number, lo, hi = formula.number, formula.lo, formula.hi
+            for x in arguments(lo, hi, 5):
+                tally.hold(f"{name} {number}: answer at {x}",
+                           asked(sheet, number, x)
+                           == answer_inside(formula, x))
+            for x in lo - 1, hi + 1:
+                tally.hold(f"{name} {number}: refused at {x}",
+                           asked(sheet, number, x) == "refused 10 at 0")
+    first = sheet_of([p.formula for p in all_printed[:MOST_FORMULAS]])
+    for number, argument, answer in BY_HAND:
+        tally.hold(f"{number}: by hand at {argument}",
+                   asked(first, number, argument) == answer)
+
+
+def check_table(tally, page, all_printed, all_errors):
+    """README.md against formulas.txt, its errors against these."""
+    _, heading, part = page.decode("utf-8", "replace").partition(HEADING)
+    all_stored = stored_cells(part)
+    tally.hold("README.md: a row for each formula",
+               len(all_stored) == len(all_printed))
+    tally.hold("README.md: as made",
+               heading + part == table(all_printed, all_stored))
+    for printed, errors, stored in zip(all_printed, all_errors, all_stored):
+        number = printed.formula.number
+        bound, own, kept, answer = measured_cells(errors)
+        tally.hold(f"{number}: bound", bound == stored[0])
+        tally.hold(f"{number}: own error", float(own) <= float(stored[1]))
+        tally.hold(f"{number}: bound kept", kept in (stored[2], "yes"))
+        tally.hold(f"{number}: error", float(answer) <= float(stored[3]))
+
+
+def check_rounding(tally, all_printed, count):
+    """Every polynomial's answers against the printed polynomial."""
+    for printed in all_printed:
+        if printed.kind == "polynomial":
+            tally.hold(f"{printed.formula.number}: rounding",
+                       rounding_is_small(printed, count))

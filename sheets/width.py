@@ -1,0 +1,61 @@
+"""How wide the interval of a formula may be: what is told with 7 and 8."""
+
+from decimal import Decimal
+from fractions import Fraction
+from math import ceil, floor
+
+from formulas import admission
+from number import ONE
+
+WHY = {  # as the library has it; tests/words.sh holds the two together
+    7: "the word range may be left on the way to an answer",
+    8: "the divisor may reach 0",
+}
+PLACES = 8  # decimal places that tell one word from the next
+
+
+def widest(formula):
+    """The largest word A such that -A to A is admitted; None where none is.
+
+    Admission asks for the larger of |lo| and |hi| alone, and its bounds only
+    grow with it: what lies inside -A to A is admitted, and nothing else.
+    """
+    def admitted(a):
+        return admission(formula._replace(lo=-a, hi=a)) == 0
+
+    if not admitted(0):
+        return None
+    inside, outside = 0, max(abs(formula.lo), abs(formula.hi))
+    while outside - inside > 1:
+        middle = (inside + outside) // 2
+        if admitted(middle):
+            inside = middle
+        else:
+            outside = middle
+    return inside
+
+
+def decimal(word, rounded):
+    """A word in decimals, rounded by floor or ceil."""
+    places = rounded(Fraction(word * 10 ** PLACES, ONE))
+    return f"{Decimal(places).scaleb(-PLACES).normalize():f}"
+
+
+def interval(lo, hi):
+    """An interval in decimals which becomes these words again when typed."""
+    return f"[{decimal(lo, floor)}, {decimal(hi, ceil)}]"
+
+
+def refusal_told(formula):
+    """Why Admission refuses the formula and what it admits, or nothing."""
+    refused = admission(formula)
+    if not refused:
+        return ""
+    told = f"refused {refused}, {WHY[refused]}: "
+    a = widest(formula)
+    if a is None:
+        return told + "no interval is admitted with these numbers"
+    told += f"any interval inside {interval(-a, a)} is admitted; "
+    lo, hi = max(formula.lo, -a), min(formula.hi, a)
+    part = interval(lo, hi) if lo <= hi else "nothing"
+    return told + f"of the one that was typed, {part}"

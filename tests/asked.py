@@ -1,0 +1,125 @@
+"""Makes questions for `valvepigeon ask`, and what it has to print for each.
+
+    python3 tests/asked.py FOLDER
+
+writes for each case NAME.args, a word of the call a line, and NAME.out. The
+answers are the second program's; a decimal is rounded, and a word is shown as
+a decimal, by exact fractions here.
+"""
+
+import sys
+from fractions import Fraction
+from math import floor
+from pathlib import Path
+
+ROOT = Path(__file__).resolve().parent.parent
+sys.path.append(str(ROOT / "oracle"))
+
+from evaluation import evaluate
+from formulas import FRACTION, POLYNOMIAL, RATIONAL
+from listings import NAMES, polynomial, sheet
+from number import M, ONE
+from refusal import Refused
+from sheet import formula_of, read
+
+HALF_STEP = Fraction(1, 2 * ONE)
+
+
+def decimal(value):
+    """A fraction whose denominator is a power of two, without end zeros."""
+    digits = str(abs(value) * 10 ** 30 // 1).rjust(31, "0")
+    text = (digits[:-30] + "." + digits[-30:]).rstrip("0").rstrip(".")
+    return "-" * (value < 0) + text
+
+
+def shown(word, as_words):
+    return str(word) if as_words else decimal(Fraction(word, ONE))
+
+
+def word_of(text):
+    if text.endswith("w"):
+        return int(text[:-1])
+    return floor(Fraction(text) * ONE + Fraction(1, 2))
+
+
+def answered(content, number, text, as_words):
+    try:
+        return shown(evaluate(content, number, word_of(text)), as_words)
+    except Refused as refusal:
+        return str(refusal)
+
+
+def fields(formula, as_words):
+    """What is printed of a formula that is asked nothing."""
+    f = formula
+    if f.kind == POLYNOMIAL:
+        counts = [f"coefficients {f.p}"]
+        names = [f"c{i}" for i in range(f.p)]
+    elif f.kind == RATIONAL:
+        counts = [f"coefficients {f.p} over {f.q}"]
+        names = [f"n{i}" for i in range(f.p)] + [f"d{i}" for i in range(f.q)]
+    elif f.kind == FRACTION:
+        counts = [f"mode {f.mode}", f"depth {f.p}"]
+        names = ["b0"] + [f"{x}{i}" for i in range(1, f.p + 1) for x in "ab"]
+    else:
+        counts = names = []
+    assert len(names) == len(f.words)
+    ends = f"{shown(f.lo, as_words)} {shown(f.hi, as_words)}"
+    return [f"number {f.number}", f"kind {NAMES[f.kind]}",
+            f"interval {ends}", *counts,
+            *(f"{name} {shown(word, as_words)}"
+              for name, word in zip(names, f.words))]
+
+
+# The formula x on all words, which gives back what its argument was taken for.
+ITSELF = sheet(polynomial(1, -M, M, 0, ONE))
+
+TYPED = [
+    "0", "-0", "+0.0", "1", "-1", "+1", "0.5", ".5", "5.", "-.25", "00127",
+    "0.1", "-0.1", "3.14159265358979", "127.99999994", "-127.99999994",
+    "0w", "-0w", "1w", "-1w", "+7w", "2147483647w", "-2147483647w",
+    # beyond the words, each way
+    "2147483648w", "-2147483648w", "99999999999999999999999w", "128", "-128",
+    "127.99999998", "4294967296", "99999999999999999999999999.5",
+] + [
+    # one half step and its odd multiples, exactly, and just beside them
+    sign + decimal(multiple * HALF_STEP) + tail
+    for multiple in (1, 3, 2 * ONE + 1) for sign in ("", "-")
+    for tail in ("", "0", "0" * 40 + "1")
+] + ["0.0000000298023223876953124999999", "-0.0000000298023223876953124999999"]
+
+
+def cases(folder):
+    itself = folder / "it self.sheet"
+    itself.write_bytes(ITSELF)
+    yield "typed", itself, 1, TYPED, False
+    yield "typed-words", itself, 1, TYPED, True
+    ready = ROOT / "sheets" / "all.sheet"
+    seen = set()
+    for f in read(ready.read_bytes()):
+        if (f.kind, f.mode) in seen:
+            continue
+        seen.add((f.kind, f.mode))
+        middle = (f.lo + f.hi) // 2
+        asked = [f"{w}w" for w in (f.lo, f.hi, middle, f.lo - 1, f.hi + 1)]
+        asked.append(decimal(Fraction(f.hi, ONE)))
+        for as_words in (False, True):
+            name = f"{f.number}-{'words' if as_words else 'decimals'}"
+            yield name, ready, f.number, asked, as_words
+            yield name + "-fields", ready, f.number, [], as_words
+
+
+def main():
+    folder = Path(sys.argv[1])
+    for name, path, number, asked, as_words in cases(folder):
+        content = path.read_bytes()
+        if asked:
+            lines = [answered(content, number, a, as_words) for a in asked]
+        else:
+            lines = fields(formula_of(content, number), as_words)
+        words = [str(path), str(number), *asked] + ["--words"] * as_words
+        (folder / f"{name}.args").write_text("\n".join(words) + "\n")
+        (folder / f"{name}.out").write_text("\n".join(lines) + "\n")
+
+
+main()

@@ -1,0 +1,186 @@
+#!/usr/bin/env bash
+# The command ./valvepigeon: what it prints, what it tells on standard error, and its status. tests/built.sh has how it is built.
+set -u
+cd "$(dirname "$0")/.." || exit 2
+. tests/lib.sh
+root=$PWD
+command=$root/valvepigeon
+need_library
+
+# Runs the command. Its output is exactly this text, its status this one, and standard error has this text, or nothing.
+gives() { # STATUS OUTPUT TOLD WORD...
+    local status=$1 output=$2 told=$3 got
+    shift 3
+    "$command" "$@" >"$room/out" 2>"$room/err"
+    got=$?
+    if [ "$got" -eq "$status" ] && printf %s "$output" | cmp -s - "$room/out" && told "$told"; then
+        pass
+    else
+        fail "valvepigeon $*: status $got, printed '$(head -c 300 "$room/out")', told '$(head -c 300 "$room/err")'"
+    fi
+}
+
+told() { # TEXT
+    if [ -n "$1" ]; then grep -qF -- "$1" "$room/err"; else [ ! -s "$room/err" ]; fi
+}
+
+# The paper's sheet, and what becomes of it; a listing's lines are the paper's.
+mkdir -p "$room/night line/deeper" "$room/empty"
+cd "$room/night line" || exit 2
+paper_sheet >good.sheet
+head -c 24 good.sheet >'cut short.sheet'
+{ head -c 24 good.sheet && head -c 8 /dev/zero; } >deeper/zeros.sheet
+head -c 8193 /dev/zero >deeper/long
+listed=$paper_listing$'\n'
+see="see 'valvepigeon"
+
+# ---- list
+gives 0 "$listed" '' list good.sheet
+gives 0 "$listed" '' list <good.sheet
+gives 0 "$listed" '' list - <good.sheet
+gives 0 "good.sheet:
+$listed-:
+$listed" '' list good.sheet - <good.sheet
+gives 1 $'refused 1 at 24\n' 'cut short.sheet: refused 1 at 24: the bytes stop' list 'cut short.sheet'
+gives 1 $'refused 2 at 24\n' 'standard input: refused 2 at 24: ' list <deeper/zeros.sheet
+gives 1 $'refused 1 at 0\n' 'fetch it or write it again' list /dev/null
+gives 1 $'too long\n' '8,192 bytes' list deeper/long
+gives 1 '' 'absent: unreadable: No such file or directory' list absent
+gives 1 '' 'deeper: unreadable: it is a folder' list deeper
+gives 1 '' 'standard input: unreadable' list <&-
+gives 1 "good.sheet:
+$listed"$'deeper/long:\ntoo long\n' 'absent: unreadable' list good.sheet absent deeper/long
+cp good.sheet ./-dash.sheet
+gives 0 "$listed" '' list -- -dash.sheet
+gives 2 '' "$see list" list -dash.sheet
+gives 2 '' "$see list" list --loud good.sheet
+
+# ---- check
+gives 0 'good.sheet: ok, 1 formula
+1 checked: 1 ok, 0 refused, 0 too long, 0 unreadable
+' '' check good.sheet
+"$command" check ../'night line' deeper/long ../empty absent - <good.sheet >"$room/out" 2>"$room/err"
+status=$?
+sed 's/: refused \([0-9]* at [0-9]*\): .*[.] .*[.]$/: refused \1, why and what to do/; s/\(too long\|unreadable\): .*[.]$/\1, why/' "$room/out" >"$room/seen"
+if [ "$status" -eq 1 ] && [ ! -s "$room/err" ] && diff - "$room/seen" <<'T'; then pass; else fail "check of a folder: status $status"; fi
+../night line/-dash.sheet: ok, 1 formula
+../night line/cut short.sheet: refused 1 at 24, why and what to do
+../night line/deeper/zeros.sheet: refused 2 at 24, why and what to do
+../night line/good.sheet: ok, 1 formula
+deeper/long: too long, why
+../empty: unreadable, why
+absent: unreadable, why
+standard input: ok, 1 formula
+8 checked: 3 ok, 2 refused, 1 too long, 2 unreadable
+T
+ln -s nowhere "$room/empty/gone.sheet"
+gives 1 "../empty/gone.sheet: unreadable: No such file or directory.
+1 checked: 0 ok, 0 refused, 0 too long, 1 unreadable
+" '' check ../empty
+gives 0 './-dash.sheet: ok, 1 formula
+1 checked: 1 ok, 0 refused, 0 too long, 0 unreadable
+' '' check -- -dash.sheet
+# a folder that may not be read hides no sheet
+mkdir "$room/half" "$room/half/locked"
+cp good.sheet "$room/half"
+chmod a+rx "$room" "$room/half" && chmod a= "$room/half/locked"
+if without_rights test -x "$command"; then
+    wrong 'check of a locked folder' 1 '2 checked: 1 ok, 0 refused, 0 too long, 1 unreadable' without_rights "$command" check "$room/half"
+else
+    echo 'skipped: check of a locked folder, as root cannot be nobody here'
+fi
+gives 2 '' "$see check" check
+gives 2 '' "$see check" check --loud good.sheet
+
+# ---- ask; the root of 2 is the paper's
+gives 0 $'1.41421353816986083984375\n' '' ask good.sheet 1 2
+gives 0 $'23726566\n4096\n' '' ask good.sheet --words 1 33554432w 1w
+gives 0 $'number 1\nkind root\ninterval 0 2\n' '' ask good.sheet 1
+gives 0 $'0\n' '' ask - 1 0 <good.sheet
+gives 1 $'0\nrefused 10 at 0\n1\n' 'good.sheet, formula 1 at -0.5: refused 10 at 0: the argument' ask good.sheet 1 0 -0.5 1
+gives 1 $'refused 11 at 0\n' 'refused 11 at 0: no formula has that number' ask good.sheet 2 0
+gives 1 $'refused 1 at 24\n' 'refused 1 at 24: the bytes stop' ask 'cut short.sheet' 1 0 1
+gives 1 $'too long\n' '8,192 bytes' ask deeper/long 1 0
+gives 1 '' 'absent: unreadable: No such file' ask absent 1 0
+gives 1 '' 'deeper: unreadable: Is a directory' ask deeper 1 0
+for bad in 1e3 1,5 0x10 nan inf '' - . w 1ww '1 ' --; do gives 2 '' 'ask' ask good.sheet 1 0 "$bad"; done
+for bad in 65536 -1 one 1.0 '' 100000; do gives 2 '' 'number' ask good.sheet "$bad" 0; done
+gives 2 '' 'is no option' ask good.sheet 1 --loud
+gives 2 '' "$see ask" ask good.sheet
+
+# ---- a name stays on one line, whatever it is
+odd=$'a: ok, 1 formula\n\e[1mb' shown='a: ok, 1 formula??[1mb'
+cp 'cut short.sheet' "$odd"
+gives 1 "$shown:"$'\nrefused 1 at 24\ngood.sheet:\n'"$listed" "valvepigeon: $shown: refused 1 at 24: " list "$odd" good.sheet
+gives 1 $'refused 1 at 24\n' "valvepigeon: $shown, formula 1: refused 1 at 24: " ask "$odd" 1 0
+gives 1 "${shown}c: unreadable: No such file or directory.
+1 checked: 0 ok, 0 refused, 0 too long, 1 unreadable
+" '' check "${odd}c"
+rm "$odd"
+
+# ---- what cannot be written
+full() { # WORD...
+    "$command" "$@" >/dev/full 2>"$room/err"
+    local status=$?
+    if [ "$status" -eq 1 ] && told 'could not be written'; then pass; else fail "valvepigeon $* to a full disk: status $status"; fi
+}
+full list good.sheet
+full check good.sheet
+full ask good.sheet 1 2
+
+# ---- wrong calls, and help, which is printed and nothing else
+gives 2 '' "$see --help" load good.sheet
+gives 2 '' "$see --help"
+for words in --help 'list --help' 'check --help' 'ask --help'; do
+    # shellcheck disable=SC2086
+    if "$command" $words >"$room/out" 2>"$room/err" && [ ! -s "$room/err" ] && grep -q '^usage: valvepigeon ' "$room/out"; then
+        pass
+    else
+        fail "valvepigeon $words"
+    fi
+done
+
+# ---- through links, one beside another
+mkdir "$room/a bin"
+ln -s "$command" "$room/a bin/first"
+ln -s 'a bin/first' "$room/second"
+command="$room/second" gives 0 "$listed" '' list good.sheet
+
+# ---- the cases of tests/listings.py and tests/asked.py
+cd "$root" || exit 2
+mkdir "$room/cases"
+python3 -B tests/listings.py "$room/cases" || fail 'tests/listings.py'
+for input in "$room"/cases/*.in; do
+    case $(head -n 1 "${input%.in}.out") in
+        'formulas '*) status=0 text= ;;
+        'refused '[3-8]' '*) status=1 text='its bytes are damaged' ;;
+        'refused '*) status=1 text='refused' ;;
+        *) status=1 text='too long' ;;
+    esac
+    gives "$status" "$(cat "${input%.in}.out")"$'\n' "$text" list "$input"
+done
+python3 -B tests/asked.py "$room/cases" || fail 'tests/asked.py'
+for input in "$room"/cases/*.args; do
+    mapfile -t words <"$input"
+    if grep -q refused "${input%.args}.out"; then status=1 text=refused; else status=0 text=; fi
+    gives "$status" "$(cat "${input%.args}.out")"$'\n' "$text" ask "${words[@]}"
+done
+
+# ---- processor time, the least of five
+least() { # WORD...
+    local time best=9999 TIMEFORMAT='%U %S'
+    for _ in 1 2 3 4 5; do
+        time=$({ time "$command" "$@" >"$room/out"; } 2>&1 | awk '{ print int(1000 * ($1 + $2) + 0.5) }')
+        [ "$time" -ge "$best" ] || best=$time
+    done
+    echo "$best"
+}
+if [ "$(uname -m)" = x86_64 ]; then
+    time=$(least list sheets/tangent.sheet)
+    if [ "$time" -lt 100 ]; then pass; else fail "list took $time ms of processor time"; fi
+    time=$(least check sheets)
+    if [ "$time" -lt 500 ]; then pass; else fail "check of sheets/ took $time ms of processor time"; fi
+else
+    echo "skipped: the processor time, this is $(uname -m)"
+fi
+conclude
