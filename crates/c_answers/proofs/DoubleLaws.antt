@@ -1,7 +1,8 @@
--- From what the board shows as doubles to what C is given.
+-- From what the board shows as doubles to what C is given, case by case.
 use mathlib.Core.Path.{refl, ap}
+use Prim.Native.Nat.{ℕ}
 use Rattle.formula.specs.declared.Formula.{Formula}
-use Rattle.records.specs.declared.refusal.Refusal.{Refusal}
+use Rattle.records.specs.declared.Refusal.{Refusal}
 use Rattle.sheet.specs.declared.answers.Found.{Found}
 use Rattle.sheet.specs.declared.answers.Found.the-variants.{Given, Refused as Withheld}
 use Rattle.board.specs.Board.{ShownAs, IntervalBy}
@@ -13,14 +14,14 @@ use Rattle.board.specs.declared.answers.Interval.{Interval}
 use Rattle.board.specs.declared.answers.Interval.the-variants.{Between, Refused as NoInterval}
 use Rattle.c_answers.specs.Answers.{shown, spanned, ShownBy, Spans}
 
-pub shown-by : (e : Evaluation) (a : Shown) → ShownAs e a → ShownBy e (shown a)
-shown-by (Answered w) (Value x) h = (refl, refl, h)
-shown-by (Answered w) (NotShown r) h = absurd h
-shown-by (Refused q) (Value x) h = absurd h
-shown-by (Refused q) (NotShown r) h = ap (λ (p : Refusal). shown (NotShown p)) h
+pub shown-by : (s : ℕ) (e : Evaluation) (a : Shown) → ShownAs s e a → ShownBy s e (shown a)
+shown-by s (Answered w) (Value x) h = (refl, refl, h)
+shown-by s (Answered w) (NotShown r) h = absurd h
+shown-by s (Refused q) (Value x) h = absurd h
+shown-by s (Refused q) (NotShown r) h = ap (λ (p : Refusal). shown (NotShown p)) h
 
-pub spans-by : (a : Found) (f : Formula) (i : Interval) → IntervalBy a f i → Spans a f (spanned i)
-spans-by Given f (Between e) h = (refl, refl, h .0, h .1)
-spans-by Given f (NoInterval r) h = absurd h
-spans-by (Withheld q) f (Between e) h = absurd h
-spans-by (Withheld q) f (NoInterval r) h = ap (λ (p : Refusal). spanned (NoInterval p)) h
+pub spans-by : (s : ℕ) (a : Found) (f : Formula) (i : Interval) → IntervalBy s a f i → Spans s a f (spanned i)
+spans-by s Given f (Between e) h = (refl, refl, h .0, h .1)
+spans-by s Given f (NoInterval r) h = absurd h
+spans-by s (Withheld q) f (Between e) h = absurd h
+spans-by s (Withheld q) f (NoInterval r) h = ap (λ (p : Refusal). spanned (NoInterval p)) h

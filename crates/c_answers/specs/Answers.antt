@@ -1,10 +1,10 @@
 -- Each answer as C is given it: refused (0, or the paper's number), place, then the values, which are 0 when refused.
+use Prim.Native.Nat.{ℕ}
 use mathlib.Core.Path.{_≡_}
 use lib.IntN.{pos}
 use lib.Ieee.{Float, binary64, ofBits}
 use Rattle.formula.specs.declared.Formula.{Formula}
 use Rattle.door.specs.Exact.{Exactly}
-use Rattle.records.specs.Faults.{places}
 use Rattle.sheet.specs.declared.answers.FormulaCount.{FormulaCount}
 use Rattle.sheet.specs.declared.answers.FormulaCount.the-variants.{Count, Refused as NotCounted}
 use Rattle.sheet.specs.declared.answers.Found.{Found}
@@ -57,14 +57,14 @@ abbrev pub written : Writing → WrittenLength
 written (Written n) = record { refused = 0; place = 0; length = n }
 written (NotWritten r) = record { refused = r .number; place = r .place; length = 0 }
 
--- ---- doubles: which double is exactly a word divided by 2^24 is said by a relation
-abbrev pub ShownBy : Evaluation → ShownValue → Type 0
-ShownBy (Answered w) x = (x .refused ≡ 0) × (x .place ≡ 0) × Exactly places (w .word) (x .value)
-ShownBy (Refused r) x = x ≡ shown (NotShown r)
+-- ---- doubles at s binary places: which double is exactly a word divided by 2^s is said by a relation
+abbrev pub ShownBy : ℕ → Evaluation → ShownValue → Type 0
+ShownBy s (Answered w) x = (x .refused ≡ 0) × (x .place ≡ 0) × Exactly s (w .word) (x .value)
+ShownBy s (Refused r) x = x ≡ shown (NotShown r)
 
-abbrev pub Spans : Found → Formula → IntervalEnds → Type 0
-Spans Given f x = (x .refused ≡ 0) × (x .place ≡ 0) × Exactly places (f .lo) (x .low) × Exactly places (f .hi) (x .high)
-Spans (Withheld r) f x = x ≡ spanned (NoInterval r)
+abbrev pub Spans : ℕ → Found → Formula → IntervalEnds → Type 0
+Spans s Given f x = (x .refused ≡ 0) × (x .place ≡ 0) × Exactly s (f .lo) (x .low) × Exactly s (f .hi) (x .high)
+Spans s (Withheld r) f x = x ≡ spanned (NoInterval r)
 
-abbrev pub SpannedBy : Reading → IntervalEnds → Type 0
-SpannedBy r x = Spans (r .found) (r .formula) x
+abbrev pub SpannedBy : ℕ → Reading → IntervalEnds → Type 0
+SpannedBy s r x = Spans s (r .found) (r .formula) x

@@ -6,8 +6,8 @@ use lib.IntN.{ℤ, pos}
 use Rattle.formula.specs.declared.Kind.the-variants.{Root, NoFormula}
 use Rattle.formula.specs.declared.Formula.{Formula}
 use Rattle.table.specs.Table.{rows, firstRow, rowOf}
+use Rattle.table.specs.Codes.{codeFor}
 use Rattle.layout.specs.Fields.{shape, formula, padded}
-use Rattle.record_bytes.specs.Kinds.{codeFor}
 use Rattle.c_answers.specs.declared.answers.Fields.{Fields}
 
 abbrev pub fields : ℕ → ℕ → ℤ → ℤ → ℕ → ℕ → ℕ → List ℤ → Fields

@@ -4,7 +4,6 @@ ghost use Rattle.c_answers.specs.Fields.{fieldsOf, noFields, formulaBy};
 use crate::answers::Fields;
 use formula::Formula;
 use formula::Shape;
-use record_bytes::kinds;
 
 pub fn fields_of(f: Formula) -> Fields
     ensures { λ r. ⌜ r ≡ fieldsOf f ⌝ }
@@ -13,7 +12,7 @@ pub fn fields_of(f: Formula) -> Fields
     let kind = shape.kind;
     let words = f.words;
     Fields {
-        kind: kinds::code_for(kind),
+        kind: table::code_for(kind),
         number: f.number,
         lo: f.lo,
         hi: f.hi,

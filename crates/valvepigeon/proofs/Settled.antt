@@ -1,13 +1,13 @@
--- Promise: each function settles its result, and what the lent buffers hold afterwards: two that satisfy its contract are equal.
+-- Promise: each function asks nothing of its caller, and settles its result and what the lent buffers hold afterwards: two that
+-- satisfy its contract are equal.
 use mathlib.Core.Path.{_≡_, sym, _∙_}
 use denote.Ref.{now}
 use denote.Triple.Clauses.{AtExit}
 use contract.Lifetimes.{Lfts}
 use borrow.Fn.Kinds.{Dens, endedOf, resT}
-use Rattle.whole.proofs.Settled.{Settled}
+use Rattle.whole.proofs.Settled.{AsksNothing, Settled}
 use Rattle.formula.specs.declared.Formula.{Formula}
 use Rattle.door.proofs.Determined.{exactly-unique}
-use Rattle.records.specs.Faults.{places}
 use Rattle.sheet.specs.Reader.{formulaRead}
 use Rattle.sheet.specs.declared.answers.Found.{Found}
 use Rattle.sheet.specs.declared.answers.Found.the-variants.{Given, Refused as Withheld}
@@ -17,6 +17,7 @@ use Rattle.board.specs.declared.answers.Evaluation.the-variants.{Answered, Refu
 use Rattle.c_answers.specs.Answers.{ShownBy, Spans}
 use Rattle.c_answers.specs.declared.answers.ShownValue.{ShownValue}
 use Rattle.c_answers.specs.declared.answers.IntervalEnds.{IntervalEnds}
+use Rattle.valvepigeon.specs.Places.{places}
 use Rattle.valvepigeon.proofs.vp_count.Kinds as count-kinds
 use Rattle.valvepigeon.proofs.vp_count.Reads as count-reads
 use Rattle.valvepigeon.proofs.vp_formula.Kinds as formula-kinds
@@ -32,6 +33,29 @@ use Rattle.valvepigeon.proofs.vp_write_record.Reads as record-reads
 use Rattle.valvepigeon.proofs.vp_write_sheet.Kinds as sheet-kinds
 use Rattle.valvepigeon.proofs.vp_write_sheet.Reads as sheet-reads
 
+-- ---- nothing is asked
+
+pub count-asks-nothing : AsksNothing count-kinds.ps count-reads.Asked
+count-asks-nothing κs a = tt
+
+pub formula-asks-nothing : AsksNothing formula-kinds.ps formula-reads.Asked
+formula-asks-nothing κs a = tt
+
+pub evaluate-asks-nothing : AsksNothing evaluate-kinds.ps evaluate-reads.Asked
+evaluate-asks-nothing κs a = tt
+
+pub evaluate-double-asks-nothing : AsksNothing double-kinds.ps double-reads.Asked
+evaluate-double-asks-nothing κs a = tt
+
+pub interval-asks-nothing : AsksNothing interval-kinds.ps interval-reads.Asked
+interval-asks-nothing κs a = tt
+
+pub write-record-asks-nothing : AsksNothing record-kinds.ps record-reads.Asked
+write-record-asks-nothing κs a = tt
+
+pub write-sheet-asks-nothing : AsksNothing sheet-kinds.ps sheet-reads.Asked
+write-sheet-asks-nothing κs a = tt
+
 -- ---- results
 
 pub count-settled : Settled count-kinds.ps count-kinds.r count-reads.Learnt
@@ -44,14 +68,14 @@ pub evaluate-settled : Settled evaluate-kinds.ps evaluate-kinds.r evaluate-reads
 evaluate-settled κs a x y s t p q = p ∙ sym q
 
 -- only one double is exactly a word divided by 2^24
-shown-once : (e : Evaluation) (x y : ShownValue) → ShownBy e x → ShownBy e y → x ≡ y
+shown-once : (e : Evaluation) (x y : ShownValue) → ShownBy places e x → ShownBy places e y → x ≡ y
 shown-once (Answered w) x y p q = λ i. record { refused = (p .0 ∙ sym (q .0)) i; place = (p .1 ∙ sym (q .1)) i; value = exactly-unique places (w .word) (x .value) (y .value) (p .2) (q .2) i }
 shown-once (Refused r) x y p q = p ∙ sym q
 
 pub evaluate-double-settled : Settled double-kinds.ps double-kinds.r double-reads.Learnt
-evaluate-double-settled κs a x y s t p q = shown-once (evaluatedDouble (now (a .0)) (a .1 .0) (a .1 .1 .0)) x y p q
+evaluate-double-settled κs a x y s t p q = shown-once (evaluatedDouble places (now (a .0)) (a .1 .0) (a .1 .1 .0)) x y p q
 
-spans-once : (a : Found) (f : Formula) (x y : IntervalEnds) → Spans a f x → Spans a f y → x ≡ y
+spans-once : (a : Found) (f : Formula) (x y : IntervalEnds) → Spans places a f x → Spans places a f y → x ≡ y
 spans-once Given f x y p q =
     let low = exactly-unique places (f .lo) (x .low) (y .low) (p .2) (q .2) in
     let high = exactly-unique places (f .hi) (x .high) (y .high) (p .3) (q .3) in
@@ -59,7 +83,7 @@ spans-once Given f x y p q =
 spans-once (Withheld r) f x y p q = p ∙ sym q
 
 pub interval-settled : Settled interval-kinds.ps interval-kinds.r interval-reads.Learnt
-interval-settled κs a x y s t p q = (let r = formulaRead (now (a .0)) (a .1 .0) in spans-once (r .found) (r .formula) x y p q)
+interval-settled κs a x y s t p q = (let r = formulaRead places (now (a .0)) (a .1 .0) in spans-once (r .found) (r .formula) x y p q)
 
 pub write-record-settled : Settled record-kinds.ps record-kinds.r record-reads.Learnt
 write-record-settled κs a x y s t p q = p .0 ∙ sym (q .0)

@@ -1,0 +1,2 @@
+-- What the C library adds to its parts.
+pub mod Places
