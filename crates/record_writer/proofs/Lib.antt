@@ -1,3 +1,4 @@
 -- Laws, lowest first.
+pub mod Elements
 pub mod RecordFaults
 pub mod RecordWriting

@@ -1,11 +1,15 @@
 -- The record writer's answers, a link at a time.
 use mathlib.Core.Path.{_≡_, _∙_, refl, sym, ap, ap₂}
 use mathlib.Core.Bool.{Bool, true, false, cond}
+use mathlib.Core.List.{List}
 use Prim.Native.Nat.{ℕ, _≤_}
 use native.Mathlib.Omega.{arith}
 use lib.Dec.{ltb, eqb}
-use lib.ListN.{length}
+use lib.ListN.{length, take}
+use lib.Seq.{sets, take-append-seam}
+use borrow.Author.Tests.{ltb-false}
 use Rattle.word.specs.Words.{Scale}
+use Rattle.stored.proofs.StoreLaws.{sets-front}
 use Rattle.formula.specs.declared.Formula.{Formula}
 use Rattle.table.specs.declared.Class.the-variants.{FormulaRecord}
 use Rattle.table.specs.declared.Row.{Row}
@@ -17,12 +21,25 @@ use Rattle.layout.proofs.RecordBack.{Tidy}
 use Rattle.layout.proofs.HandedLaws as handed
 use Rattle.records.specs.Guard.{guard}
 use Rattle.records.specs.Faults.{countFault, valueFault, scaleFault, onlyFormula}
+use Rattle.records.proofs.Chain.{passed}
 use Rattle.records.proofs.Lengths.{counted}
 use Rattle.record_writer.specs.Answers.{writingPlace, refusedBy}
 use Rattle.record_writer.specs.RecordWriter.{roomWriting, plainWriting, recordWriting, judgedWriting, bytesOf}
 use Rattle.record_writer.specs.declared.answers.Writing.{Writing}
 use Rattle.record_writer.specs.declared.answers.Writing.the-variants.{Written}
 use Rattle.record_writer.proofs.RecordFaults.{check-same}
+
+-- ---- a board has the binary places
+pub scale : (s : ℕ) → scaleFault s ≡ 0 → Scale s
+unfolding scaleFault
+scale s e =
+    let a = passed (ltb s 16) 6 _ (λ z. omega arith) e in
+    let b = passed (ltb 28 s) 6 0 (λ z. omega arith) (a .1) in
+    record { least = ltb-false _ _ (a .0); most = ltb-false _ _ (b .0) }
+
+-- ---- a record's bytes at the front of an array are its first ones
+pub front-taken : (l a : List ℕ) (n : ℕ) → n ≡ length a → length a ≤ length l → take n (sets l 0 a) ≡ a
+front-taken l a n e h = rw (e, sets-front l a h) (take-append-seam a _)
 
 -- ---- past the counts: the record can be put together, and its bytes are judged as the formula is
 module _ (f : Formula) (c : rowBy f .class ≡ FormulaRecord) (n : countFault (rowBy f) (plainShape (rowBy f) (f .shape) .p) (plainShape (rowBy f) (f .shape) .q) ≡ 0) where
