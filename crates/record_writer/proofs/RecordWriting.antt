@@ -13,7 +13,8 @@ use Rattle.stored.proofs.StoreLaws.{sets-front}
 use Rattle.formula.specs.declared.Formula.{Formula}
 use Rattle.table.specs.declared.Class.the-variants.{FormulaRecord}
 use Rattle.table.specs.declared.Row.{Row}
-use Rattle.table.specs.Table.{lengthBy}
+use Rattle.table.specs.Table.{rowOf, lengthBy}
+use Rattle.table.specs.Codes.{codeFor}
 use Rattle.layout.specs.Plain.{Handed, wordsIn, plainShape, plainBy, rowBy, plain}
 use Rattle.layout.specs.Bytes.{Ready}
 use Rattle.layout.proofs.RecordLaws.{length-record}
@@ -21,7 +22,7 @@ use Rattle.layout.proofs.RecordBack.{Tidy}
 use Rattle.layout.proofs.HandedLaws as handed
 use Rattle.records.specs.Guard.{guard}
 use Rattle.records.specs.Faults.{countFault, valueFault, scaleFault, onlyFormula}
-use Rattle.records.proofs.Chain.{passed}
+use Rattle.records.proofs.Chain.{halts, goes, passed}
 use Rattle.records.proofs.Lengths.{counted}
 use Rattle.record_writer.specs.Answers.{writingPlace, refusedBy}
 use Rattle.record_writer.specs.RecordWriter.{roomWriting, plainWriting, recordWriting, judgedWriting, bytesOf}
@@ -55,6 +56,16 @@ module _ (f : Formula) (c : rowBy f .class ≡ FormulaRecord) (n : countFault (r
       let d = tidy h in
       ap₂ (λ (fault size : ℕ). guard fault refusedBy (roomWriting size room)) (check-same (rowBy f) (plain f) d n s) (length-record (rowBy f) (plain f) (d .ready))
       ∙ sym (ap (λ (fault : ℕ). guard fault refusedBy (guard (valueFault s (rowBy f) (plain f .shape) (f .lo) (f .hi) (wordsIn (plain f))) refusedBy (roomWriting (lengthBy (rowBy f) (plain f .shape .p) (plain f .shape .q)) room))) n)
+
+-- ---- by the code of the formula's kind: a formula's, or none that a formula has
+module _ (s : ℕ) (f : Formula) (room n : ℕ) (e : n ≡ codeFor (f .shape .kind)) where
+  pub at-code : {x : Writing} → onlyFormula (rowOf n .class) ≡ 0 → x ≡ guard (scaleFault s) refusedBy (plainWriting s (rowBy f) (plain f) room) → x ≡ recordWriting s f room
+  unfolding recordWriting
+  at-code z g = goes refusedBy (ap (λ (k : ℕ). onlyFormula (rowOf k .class)) e) z g
+
+  pub at-no-code : {x : Writing} → onlyFormula (rowOf n .class) ≡ 3 → x ≡ refusedBy 3 → x ≡ recordWriting s f room
+  unfolding recordWriting
+  at-no-code z g = halts refusedBy _ (sym z ∙ ap (λ (k : ℕ). onlyFormula (rowOf k .class)) e) (λ q. omega arith) g
 
 -- ---- all at place 0
 at-zero : (fault : ℕ) (x : Writing) → writingPlace x ≡ 0 → writingPlace (guard fault refusedBy x) ≡ 0
