@@ -2,3 +2,5 @@
 pub mod Elements
 pub mod RecordFaults
 pub mod RecordWriting
+pub mod Accepted
+pub mod Settled

@@ -1,6 +1,0 @@
--- Laws, lowest first.
-pub mod Stores
-pub mod KindLaws
-pub mod RecordLaws
-pub mod RecordBack
-pub mod BytesAgain
