@@ -1,3 +1,6 @@
 -- Laws, lowest first.
+pub mod Elements
 pub mod RecordFaults
 pub mod RecordWriting
+pub mod Accepted
+pub mod Settled

@@ -1,15 +1,20 @@
 -- The record writer's answers, a link at a time.
 use mathlib.Core.Path.{_≡_, _∙_, refl, sym, ap, ap₂}
 use mathlib.Core.Bool.{Bool, true, false, cond}
+use mathlib.Core.List.{List}
 use Prim.Native.Nat.{ℕ, _≤_}
 use native.Mathlib.Omega.{arith}
 use lib.Dec.{ltb, eqb}
-use lib.ListN.{length}
+use lib.ListN.{length, take}
+use lib.Seq.{sets, take-append-seam}
+use borrow.Author.Tests.{ltb-false}
 use Rattle.word.specs.Words.{Scale}
+use Rattle.stored.proofs.StoreLaws.{sets-front}
 use Rattle.formula.specs.declared.Formula.{Formula}
 use Rattle.table.specs.declared.Class.the-variants.{FormulaRecord}
 use Rattle.table.specs.declared.Row.{Row}
-use Rattle.table.specs.Table.{lengthBy}
+use Rattle.table.specs.Table.{rowOf, lengthBy}
+use Rattle.table.specs.Codes.{codeFor}
 use Rattle.layout.specs.Plain.{Handed, wordsIn, plainShape, plainBy, rowBy, plain}
 use Rattle.layout.specs.Bytes.{Ready}
 use Rattle.layout.proofs.RecordLaws.{length-record}
@@ -17,12 +22,25 @@ use Rattle.layout.proofs.RecordBack.{Tidy}
 use Rattle.layout.proofs.HandedLaws as handed
 use Rattle.records.specs.Guard.{guard}
 use Rattle.records.specs.Faults.{countFault, valueFault, scaleFault, onlyFormula}
+use Rattle.records.proofs.Chain.{halts, goes, passed}
 use Rattle.records.proofs.Lengths.{counted}
 use Rattle.record_writer.specs.Answers.{writingPlace, refusedBy}
 use Rattle.record_writer.specs.RecordWriter.{roomWriting, plainWriting, recordWriting, judgedWriting, bytesOf}
 use Rattle.record_writer.specs.declared.answers.Writing.{Writing}
 use Rattle.record_writer.specs.declared.answers.Writing.the-variants.{Written}
 use Rattle.record_writer.proofs.RecordFaults.{check-same}
+
+-- ---- a board has the binary places
+pub scale : (s : ℕ) → scaleFault s ≡ 0 → Scale s
+unfolding scaleFault
+scale s e =
+    let a = passed (ltb s 16) 6 _ (λ z. omega arith) e in
+    let b = passed (ltb 28 s) 6 0 (λ z. omega arith) (a .1) in
+    record { least = ltb-false _ _ (a .0); most = ltb-false _ _ (b .0) }
+
+-- ---- a record's bytes at the front of an array are its first ones
+pub front-taken : (l a : List ℕ) (n : ℕ) → n ≡ length a → length a ≤ length l → take n (sets l 0 a) ≡ a
+front-taken l a n e h = rw (e, sets-front l a h) (take-append-seam a _)
 
 -- ---- past the counts: the record can be put together, and its bytes are judged as the formula is
 module _ (f : Formula) (c : rowBy f .class ≡ FormulaRecord) (n : countFault (rowBy f) (plainShape (rowBy f) (f .shape) .p) (plainShape (rowBy f) (f .shape) .q) ≡ 0) where
@@ -38,6 +56,16 @@ module _ (f : Formula) (c : rowBy f .class ≡ FormulaRecord) (n : countFault (r
       let d = tidy h in
       ap₂ (λ (fault size : ℕ). guard fault refusedBy (roomWriting size room)) (check-same (rowBy f) (plain f) d n s) (length-record (rowBy f) (plain f) (d .ready))
       ∙ sym (ap (λ (fault : ℕ). guard fault refusedBy (guard (valueFault s (rowBy f) (plain f .shape) (f .lo) (f .hi) (wordsIn (plain f))) refusedBy (roomWriting (lengthBy (rowBy f) (plain f .shape .p) (plain f .shape .q)) room))) n)
+
+-- ---- by the code of the formula's kind: a formula's, or none that a formula has
+module _ (s : ℕ) (f : Formula) (room n : ℕ) (e : n ≡ codeFor (f .shape .kind)) where
+  pub at-code : {x : Writing} → onlyFormula (rowOf n .class) ≡ 0 → x ≡ guard (scaleFault s) refusedBy (plainWriting s (rowBy f) (plain f) room) → x ≡ recordWriting s f room
+  unfolding recordWriting
+  at-code z g = goes refusedBy (ap (λ (k : ℕ). onlyFormula (rowOf k .class)) e) z g
+
+  pub at-no-code : {x : Writing} → onlyFormula (rowOf n .class) ≡ 3 → x ≡ refusedBy 3 → x ≡ recordWriting s f room
+  unfolding recordWriting
+  at-no-code z g = halts refusedBy _ (sym z ∙ ap (λ (k : ℕ). onlyFormula (rowOf k .class)) e) (λ q. omega arith) g
 
 -- ---- all at place 0
 at-zero : (fault : ℕ) (x : Writing) → writingPlace x ≡ 0 → writingPlace (guard fault refusedBy x) ≡ 0

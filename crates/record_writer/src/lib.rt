@@ -54,9 +54,9 @@ fn put_checked(f: Formula, code: u16, out: &mut [u8], s: u32) -> Writing
     if b != 0 {
         return answers::refused_by(b);
     }
-    let mut record = [0u8; 120];
-    let n = putting::put_record(row, shape, f, &mut record);
-    copy_judged(&record[..n], out, s)
+    let mut bytes = [0u8; 120];
+    let n = putting::put_record(row, shape, f, &mut bytes);
+    copy_judged(&bytes[..n], out, s)
 }
 
 // The code of each kind by its name: the compiler then has the row's numbers as constants.
