@@ -8,7 +8,8 @@ use lib.Signed.{_≤ℤ_, _<ℤ_, ltZ, clashℤ}
 use Rattle.word.specs.Words.{Scale}
 use Rattle.formula.specs.declared.Formula.{Formula}
 use Rattle.formula.specs.Formula.{answerOf, Answerable}
-use Rattle.sheet.specs.Reader.{wordsIn, Fit}
+use Rattle.layout.specs.Plain.{wordsIn}
+use Rattle.sheet.specs.Reader.{Fit}
 use Rattle.board.specs.Board.{refused, answered, answerAt}
 use Rattle.board.specs.declared.answers.Evaluation.{Evaluation}
 

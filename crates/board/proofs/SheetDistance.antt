@@ -10,7 +10,8 @@ use Rattle.polynomial.specs.Distance.{exactSum, spreadSum}
 use Rattle.formula.proofs.Distance.{polynomialShape, polynomial-distance}
 use Rattle.formula.specs.declared.Shape.{Shape}
 use Rattle.formula.specs.Formula.{Sound, answerOf}
-use Rattle.sheet.specs.Reader.{wordsIn, HasFormula}
+use Rattle.layout.specs.Plain.{wordsIn}
+use Rattle.sheet.specs.Reader.{HasFormula}
 use Rattle.sheet.proofs.FormulasGiven.{given-fits}
 use Rattle.board.specs.Board.{evaluationWord, evaluated}
 use Rattle.board.proofs.AnswersInside.{formulaGiven, answers-inside}

@@ -17,7 +17,8 @@ use Rattle.door.specs.declared.answer.Taken.the-variants.{Word, NoWord, NotFini
 use Rattle.door.specs.Taken.{takenOf, refusalOf}
 use Rattle.door.specs.Exact.{Exactly}
 use Rattle.records.specs.Guard.{refusal}
-use Rattle.sheet.specs.Reader.{formulaRead, wordsIn}
+use Rattle.layout.specs.Plain.{wordsIn}
+use Rattle.sheet.specs.Reader.{formulaRead}
 use Rattle.sheet.specs.declared.answers.Found.{Found}
 use Rattle.sheet.specs.declared.answers.Found.the-variants.{Given, Refused as Withheld}
 use Rattle.sheet.specs.declared.answers.Reading.{Reading}

@@ -5,7 +5,7 @@ use mathlib.Core.List.{List, [], _∷_}
 use mathlib.Core.Bool.{cond}
 use lib.Dec.{eqb}
 use lib.ListN.{length, getD, take}
-use lib.IntN.{ℤ, pos}
+use lib.IntN.{ℤ, pos, negsuc}
 use mir.Syntax.{w32}
 use mir.Val.{SFits}
 use Rattle.formula.specs.declared.Kind.the-variants.{Polynomial, Root}
@@ -60,3 +60,8 @@ root-plain = refl
 polynomial-plain : plain (formula 1 (shape Polynomial 1 7 7) (pos 0) (pos 9) (padded (pos 5 ∷ pos 6 ∷ []))) ≡ formula 1 (shape Polynomial 1 0 0) (pos 0) (pos 9) (padded (pos 5 ∷ []))
 unfolding rows firstRow rowOf codeFor padded kept plainShape plainBy
 polynomial-plain = refl
+
+-- a polynomial of two coefficients has two words
+two-words : wordsIn (formula 1 (shape Polynomial 2 0 0) (pos 0) (pos 5) (padded (negsuc 3 ∷ pos 0 ∷ []))) ≡ negsuc 3 ∷ pos 0 ∷ []
+unfolding padded
+two-words = refl

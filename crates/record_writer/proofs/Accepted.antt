@@ -12,6 +12,7 @@ use Rattle.layout.specs.Plain.{Handed, wordsIn, plainBy, rowBy, plain}
 use Rattle.layout.proofs.RecordBack.{Tidy}
 use Rattle.records.specs.Guard.{guard}
 use Rattle.records.specs.Faults.{countFault, valueFault, scaleFault, onlyFormula}
+use Rattle.records.proofs.ScaleLaws.{good-scale}
 use Rattle.records.proofs.FormulaLaws.{only-formula}
 use Rattle.record_writer.specs.Answers.{writingNumber, refusedBy}
 use Rattle.record_writer.specs.RecordWriter.{roomWriting, plainWriting, recordWriting}
@@ -41,7 +42,7 @@ accepts s f room e =
     let written = roomWriting (lengthBy r (g .shape .p) (g .shape .q)) room in
     let fault = valueFault s r (g .shape) (g .lo) (g .hi) (wordsIn g) in
     let counts = past (countFault r (g .shape .p) (g .shape .q)) (guard fault refusedBy written) (places .1) in
-    record { class = only-formula (r .class) (kind .0); scale = writing.scale s (places .0); counts = counts .0; values = past fault written (counts .1) .0 }
+    record { class = only-formula (r .class) (kind .0); scale = good-scale s (places .0); counts = counts .0; values = past fault written (counts .1) .0 }
 
 -- it can then be told from its bytes
 pub tidy : (s : ℕ) (f : Formula) → Handed f → Accepts s f → Tidy (rowBy f) (plain f)

@@ -30,14 +30,6 @@ use Rattle.record_writer.specs.declared.answers.Writing.{Writing}
 use Rattle.record_writer.specs.declared.answers.Writing.the-variants.{Written}
 use Rattle.record_writer.proofs.RecordFaults.{check-same}
 
--- ---- a board has the binary places
-pub scale : (s : ℕ) → scaleFault s ≡ 0 → Scale s
-unfolding scaleFault
-scale s e =
-    let a = passed (ltb s 16) 6 _ (λ z. omega arith) e in
-    let b = passed (ltb 28 s) 6 0 (λ z. omega arith) (a .1) in
-    record { least = ltb-false _ _ (a .0); most = ltb-false _ _ (b .0) }
-
 -- ---- a record's bytes at the front of an array are its first ones
 pub front-taken : (l a : List ℕ) (n : ℕ) → n ≡ length a → length a ≤ length l → take n (sets l 0 a) ≡ a
 front-taken l a n e h = rw (e, sets-front l a h) (take-append-seam a _)

@@ -13,10 +13,11 @@ use Rattle.table.proofs.Rule.{ruled}
 use Rattle.layout.specs.Fields.{codeOf, rowFor, loOf, hiOf, shapeOf, wordsOf, padded, formulaOf, Complete}
 use Rattle.layout.proofs.Complete.{complete}
 use Rattle.layout.proofs.Padded.{take-padded}
+use Rattle.layout.specs.Plain.{wordsIn}
 use Rattle.records.specs.Sheets.{RecordOf, FormulaBytes}
 use Rattle.records.proofs.Lengths.{laid}
 use Rattle.records.proofs.Soundness.{admitted, sound-record}
-use Rattle.sheet.specs.Reader.{formulaIn, wordsIn, Fit}
+use Rattle.sheet.specs.Reader.{formulaIn, Fit}
 
 pub complete-record : (b : List ℕ) → RecordOf FormulaRecord b → Complete (rowFor b) b
 complete-record b r = complete (rowFor b) b (ruled (codeOf b)) (r .class) (r .most) (laid (rowFor b) b (r .exact))

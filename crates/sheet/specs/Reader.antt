@@ -2,17 +2,18 @@
 use Prim.Native.Nat.{ℕ, zero, suc}
 use mathlib.Core.Path.{_≡_, refl}
 use mathlib.Core.List.{List, [], _∷_}
-use lib.ListN.{take, replicate}
-use lib.IntN.{ℤ, pos, negsuc}
+use lib.ListN.{replicate}
+use lib.IntN.{pos}
 use Rattle.word.specs.Words.{Scale}
 use Rattle.stored.specs.Numbers.{number2, number4}
 use Rattle.stored.specs.Words.{words}
 use Rattle.admission.specs.declared.Admission.the-variants.{Admitted}
-use Rattle.formula.specs.declared.Kind.the-variants.{Polynomial, NoFormula}
+use Rattle.formula.specs.declared.Kind.the-variants.{NoFormula}
 use Rattle.formula.specs.declared.Formula.{Formula}
-use Rattle.formula.specs.Formula.{wordCount, Sound, admissionOf}
+use Rattle.formula.specs.Formula.{Sound, admissionOf}
 use Rattle.table.specs.Table.{rows, firstRow, rowOf, piecesBy}
 use Rattle.layout.specs.Fields.{bytesAt, Reaches, rowFor, firstCount, fieldOf, shape, shapeOf, padded, formula, formulaOf}
+use Rattle.layout.specs.Plain.{wordsIn}
 use Rattle.records.specs.Faults.{frameFault, outside, countFault, sizeFault, lengthFault, startFault, scaleFault, orderFault, endFault, valueFault, ownFault, intervalFault, wordsFault}
 use Rattle.records.specs.Guard.{refusal}
 use Rattle.records.specs.Refusals.{OneOf, sheetRefusals}
@@ -116,11 +117,7 @@ formulaRead s bytes n = readAt bytes (formulaPlace s bytes n)
 abbrev pub HasFormula : ℕ → List ℕ → ℕ → Type 0
 HasFormula s bytes n = foundNumber (formulaRead s bytes n .found) ≡ 0
 
--- ---- a formula's words without the zeros behind them: as many as its kind and counts ask for
-abbrev pub wordsIn : Formula → List ℤ
-wordsIn f = take (wordCount (f .shape .kind) (f .shape .p) (f .shape .q)) (f .words)
-
--- a formula that is sound and admitted
+-- ---- a formula that is sound and admitted
 pub record Fit (s : ℕ) (f : Formula) : Type 0 where
   pub sound : Sound (f .shape) (f .lo) (f .hi) (wordsIn f)
   pub admitted : admissionOf s (f .shape) (f .lo) (f .hi) (wordsIn f) ≡ Admitted
@@ -157,8 +154,3 @@ oneRoot =
 one-root : (formulaCount 24 oneRoot ≡ Count 1) × (formulaPlace 24 oneRoot 5 ≡ At 8) × (formulaPlace 24 oneRoot 6 ≡ Absent (refusal 0 11))
 unfolding formulaCount formulaPlace walkOf walkFrom faultAt foundBy ending frameFault bytesAt recordFault lengthFault sizeFault countFault outside startFault scaleFault orderFault endFault valueFault ownFault intervalFault wordsFault number2 number4 words rows firstRow rowOf firstCount fieldOf shapeOf piecesBy
 one-root = (refl, refl, refl)
-
--- a polynomial of two coefficients has two words
-two-words : wordsIn (formula 1 (shape Polynomial 2 0 0) (pos 0) (pos 5) (padded (negsuc 3 ∷ pos 0 ∷ []))) ≡ negsuc 3 ∷ pos 0 ∷ []
-unfolding padded
-two-words = refl

@@ -21,7 +21,7 @@ use Rattle.records.specs.Sheets.{FormulaBytes, EachFormula, Rising, inLine, Has
 use Rattle.walking.specs.Walking.{walkOf}
 use Rattle.walking.specs.declared.Walked.{Walked}
 use Rattle.walking.specs.declared.Walked.the-variants.{Whole, Broken}
-use Rattle.walking.proofs.Clear.{good-scale}
+use Rattle.records.proofs.ScaleLaws.{good-scale}
 use Rattle.walking.proofs.Formulas.{placeIn}
 use Rattle.walking.proofs.WalkToShape.{run-shape}
 use Rattle.sheet.specs.Reader.{noNumber, formulaCount, reading, placeAnswer, formulaPlace, readAt, formulaRead}
@@ -34,8 +34,7 @@ use Rattle.record_writer.specs.RecordWriter.{recordWriting, bytesOf}
 use Rattle.record_writer.specs.declared.answers.Writing.{Writing}
 use Rattle.record_writer.specs.declared.answers.Writing.the-variants.{Written}
 use Rattle.record_writer.proofs.RecordFaults.{bytes-back}
-use Rattle.record_writer.proofs.RecordWriting.{tidy}
-use Rattle.record_writer.proofs.Accepted.{accepts}
+use Rattle.record_writer.proofs.Accepted.{accepts, tidy}
 use Rattle.sheet_writer.specs.SheetWriter.{runWalked, walkedWriting, recordsIn, sheetWriting, sheetBytes, sheetOf}
 use Rattle.sheet_writer.specs.RoundTrips.{EachWritten, Ascending, In, ReadAgain}
 use Rattle.sheet_writer.proofs.SheetLaws.{start-head}
@@ -92,10 +91,10 @@ record Record (s : ℕ) (f : Formula) : Type 0 where
 one : (s : ℕ) (f : Formula) (room n : ℕ) → Handed f → recordWriting s f room ≡ Written n → Record s f
 unfolding plainBy
 one s f room n h e =
-    let a = accepts s f room n e in
-    let d = tidy f (a .class) (a .counts) h in
+    let a = accepts s f room (ap writingNumber e) in
+    let d = tidy s f h a in
     record {
-      scale = good-scale s (a .scale);
+      scale = a .scale;
       bytes = bytes-back (rowBy f) (plain f) d (a .counts) s (a .values);
       number = number-again (rowBy f) (plain f) d;
       again = rw (row-back (rowBy f) (plain f) d) (formula-back (rowBy f) (plain f) d);

@@ -4,7 +4,7 @@ use mathlib.Core.List.{List, [], _∷_, _++_, append-nil}
 use Prim.Native.Nat.{ℕ, _+_, _≤_, _<_}
 use native.Mathlib.Omega.{arith}
 use lib.ListN.{length, length-append}
-use borrow.Author.Tests.{ne-eqb, le-ltb, lt-ltb}
+use borrow.Author.Tests.{ne-eqb, le-ltb}
 use Rattle.word.specs.Words.{Scale}
 use Rattle.stored.specs.Numbers.{number2, number4, bytes2, bytes4}
 use Rattle.table.specs.declared.Class.the-variants.{StartRecord, EndRecord}
@@ -14,10 +14,9 @@ use Rattle.table.specs.Codes.{startRow, endRow}
 use Rattle.layout.specs.Fields.{countOf, firstCount, fieldOf, shapeOf}
 use Rattle.layout.specs.Bytes.{frontBytes, framingBytes}
 use Rattle.layout.proofs.RecordBack.{number-back}
-use Rattle.records.specs.Guard.{guard}
-use Rattle.records.specs.Faults.{outside, countFault, sizeFault, lengthFault, scaleFault}
+use Rattle.records.specs.Faults.{outside, countFault, sizeFault, lengthFault}
 use Rattle.records.specs.Sheets.{RecordOf, EachFormula, inLine, RunOf, SheetOf}
-use Rattle.walking.specs.Walking.{walkOf}
+use Rattle.records.proofs.ScaleLaws.{no-scale-fault}
 use Rattle.walking.specs.declared.Walked.the-variants.{Whole}
 use Rattle.walking.proofs.ShapeToWalk.{run-walked}
 use Rattle.record_writer.specs.declared.answers.Writing.the-variants.{Written}
@@ -54,10 +53,6 @@ sheet-shape s c run k m r =
 -- the walk over such a run
 pub run-is-whole : (s c : ℕ) (run : List ℕ) → RunOf s c run → (k : ℕ) × (runWalked s run ≡ Whole c k)
 run-is-whole s c run r = rw start-head (_, run-walked s c run r 7 65536)
-
-pub no-scale-fault : (s : ℕ) → Scale s → scaleFault s ≡ 0
-unfolding scaleFault
-no-scale-fault s k = rw (le-ltb s 16 (k .least), le-ltb 28 s (k .most)) refl
 
 some-byte : (s : ℕ) (l : List (List ℕ)) → 1 ≤ length l → EachFormula s l → length (inLine l) ≡ 0 → ⊥
 some-byte s [] n e z = omega arith

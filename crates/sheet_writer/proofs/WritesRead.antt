@@ -34,6 +34,7 @@ use Rattle.records.specs.Faults.{outside, intervalFault, ownFault, valueFault, 
 use Rattle.records.specs.Sheets.{RecordOf, FormulaBytes, EachFormula, inLine, Has, RunOf, SheetOf}
 use Rattle.records.proofs.Chain.{goes, passed, neither}
 use Rattle.records.proofs.Lengths.{inside, laid}
+use Rattle.records.proofs.ScaleLaws.{no-scale-fault}
 use Rattle.sheet.specs.Reader.{countValue, formulaCount, Accepted, HasFormula, formulaRead}
 use Rattle.sheet.specs.declared.answers.Reading.{Reading}
 use Rattle.sheet.proofs.Words.{words-in}
@@ -45,7 +46,7 @@ use Rattle.record_writer.specs.declared.answers.Writing.the-variants.{Written}
 use Rattle.sheet_writer.specs.SheetWriter.{added, runWalked, recordsIn, sheetBytes, sheetWriting, sheetOf}
 use Rattle.sheet_writer.specs.RoundTrips.{In, runOf, OwnRecord}
 use Rattle.sheet_writer.proofs.SheetLaws.{start-head, end-head}
-use Rattle.sheet_writer.proofs.SheetShape.{no-scale-fault, run-is-whole, sheet-written}
+use Rattle.sheet_writer.proofs.SheetShape.{run-is-whole, sheet-written}
 use Rattle.sheet_writer.proofs.ReadsWritten.{reads-record}
 
 -- a part and the part behind it, each written again

@@ -15,6 +15,7 @@ use Rattle.table.specs.declared.Row.{Row}
 use Rattle.layout.specs.Fields.{rowFor, countOf, formulaNumber}
 use Rattle.records.specs.Guard.{guard, refusal}
 use Rattle.records.specs.Faults.{frameFault, outside, lengthFault, startFault, scaleFault, orderFault, endFault, innerFault}
+use Rattle.records.proofs.ScaleLaws.{good-scale}
 use Rattle.records.proofs.Chain.{halts, goes, passed, met, neither}
 use Rattle.walking.specs.Walking.{placeFault, classFault, recordFault, recordHere, faultAt, onward, runDone, walkFrom}
 use Rattle.walking.specs.declared.Walk.{Walk}
@@ -45,12 +46,6 @@ module _ (s : ℕ) (bytes : List ℕ) (from : ℕ) (w : Walk) where
 -- ---- each class by itself
 later : (at x : ℕ) → cond (eqb at 0) 3 x ≡ 0 → (at ≡ 0 → ⊥) × (x ≡ 0)
 later at x e = let p = passed (eqb at 0) 3 x (λ z. omega arith) e in (eqb-false at 0 (p .0), p .1)
-
-pub good-scale : (s : ℕ) → scaleFault s ≡ 0 → Scale s
-unfolding scaleFault
-good-scale s e =
-    let a = passed (ltb s 16) 6 _ (λ z. omega arith) e in
-    record { least = ltb-false _ _ (a .0); most = ltb-false _ _ (passed (ltb 28 s) 6 0 (λ z. omega arith) (a .1) .0) }
 
 module _ {s : ℕ} {bytes : List ℕ} {from : ℕ} {w : Walk} {b : List ℕ} (c : Clear s bytes from w b) where
   content-at : (k : Class) → rowFor b .class ≡ k → (placeFault from k (w .at) ≡ 0) × (classFault s k (rowFor b) b w ≡ 0)

@@ -30,17 +30,13 @@ start-fine : (b : List ℕ) (c : ℕ) → rowFor b .class ≡ StartRecord → 1 
 unfolding startFault outside
 start-fine b c e l m = rw (ruled (codeOf b) .counted, e) (simp (le-ltb c 1 l, le-ltb 64 c m))
 
-scale-fine : (s : ℕ) → Scale s → scaleFault s ≡ 0
-unfolding scaleFault
-scale-fine s h = simp (le-ltb s 16 (h .least), le-ltb 28 s (h .most))
-
 module _ (s : ℕ) (bytes : List ℕ) where
   -- past the start, at 0
   past-start : (b after : List ℕ) (asked k : ℕ) → bytes ≡ b ++ after → RecordOf StartRecord b → 1 ≤ countOf b → countOf b ≤ 64 → Scale s
       → walkFrom (suc k) s bytes 0 (begin 0 asked) ≡ walkFrom k s bytes 0 (afterStart b (begin 0 asked))
   past-start b after asked k q r l m h =
       let w = begin 0 asked in
-      let c = no-fault-there s bytes 0 [] b after StartRecord r w q refl refl (rw (eq-eqb _ _ (start-fine b (countOf b) (r .class) l m)) (scale-fine s h)) in
+      let c = no-fault-there s bytes 0 [] b after StartRecord r w q refl refl (rw (eq-eqb _ _ (start-fine b (countOf b) (r .class) l m)) (no-scale-fault s h)) in
       walk-on s bytes 0 w k refl (c .0)
       ∙ ap (λ (x : List ℕ). onward (walkFrom k s bytes 0) (rowFor x .class) x w (length bytes)) (c .1)
       ∙ ap (λ (j : Class). onward (walkFrom k s bytes 0) j b w (length bytes)) (r .class)

@@ -3,7 +3,7 @@ use borrow.Author.Needs.{needs}
 use mathlib.Core.Path.{_∙_, refl, sym}
 use borrow.Author.Tests.{eq-eqb, ne-eqb}
 use Rattle.records.proofs.Chain.{halts, goes}
-use Rattle.walking.proofs.Clear.{good-scale}
+use Rattle.records.proofs.ScaleLaws.{good-scale}
 use Rattle.record_writer.specs.Answers.{refusedBy}
 use Rattle.sheet_writer.specs.SheetWriter.{sheetWriting}
 use Rattle.sheet_writer.proofs.write_sheet.Statement.{statement}
