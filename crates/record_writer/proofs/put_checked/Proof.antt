@@ -19,11 +19,12 @@ use Rattle.layout.specs.Bytes.{Ready}
 use Rattle.layout.proofs.RecordLaws.{length-record}
 use Rattle.records.specs.Faults.{countFault}
 use Rattle.records.proofs.Chain.{halts, goes}
+use Rattle.records.proofs.ScaleLaws.{good-scale}
 use Rattle.record_writer.specs.Answers.{refusedBy, bufferAfter}
 use Rattle.record_writer.specs.RecordWriter.{plainWriting, judgedWriting, bytesOf}
 use Rattle.record_writer.proofs.Elements.{field-element}
 use Rattle.record_writer.proofs.RecordFaults.{short-record}
-use Rattle.record_writer.proofs.RecordWriting.{scale, ready, tidy, judged, front-taken}
+use Rattle.record_writer.proofs.RecordWriting.{ready, tidy, judged, front-taken}
 use Rattle.record_writer.proofs.put_checked.Statement.{statement}
 use Rattle.record_writer.proofs.put_checked.Tie as tie
 
@@ -102,7 +103,7 @@ copy-judged-requires c κs =
     let d = tidy (s .args .f) (class s) (sym (counts (p .before .before .before)) ∙ p .before .before .if2 .left) (given s) in
     let n = short-record (rowBy (s .args .f)) (plain (s .args .f)) d in
     let l = ap length (first-bytes p) in
-    (scale (s .args .s) (sym (i .before .scale-fault .ensures) ∙ i .if1 .left), omega (arith, l, n .0), omega (arith, l, n .1))
+    (good-scale (s .args .s) (sym (i .before .scale-fault .ensures) ∙ i .if1 .left), omega (arith, l, n .0), omega (arith, l, n .1))
 
 returns-3 : tie.Need-returns-3
 returns-3 c =
