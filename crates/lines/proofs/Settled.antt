@@ -1,4 +1,4 @@
--- Promise: the listing settles its result and the buffer: two results, and two later contents, that satisfy its contract are equal.
+-- Promise: the listing asks nothing of its caller, and settles its result and the buffer: two results, and two later contents, that satisfy its contract are equal.
 use mathlib.Core.Path.{_≡_, _∙_, sym, ap}
 use mathlib.Core.List.{_++_}
 use Prim.Native.Nat.{ℕ}
@@ -7,10 +7,13 @@ use lib.ListN.{drop}
 use denote.Ref.{now}
 use borrow.Fn.Kinds.{Dens, endedOf, resT}
 use denote.Triple.Clauses.{AtExit}
-use Rattle.whole.proofs.Settled.{Settled}
+use Rattle.whole.proofs.Settled.{AsksNothing, Settled}
 use Rattle.lines.specs.Listing.{listing}
 use Rattle.lines.proofs.list_sheet.Kinds as kinds
 use Rattle.lines.proofs.list_sheet.Reads as reads
+
+pub list-sheet-asks-nothing : AsksNothing kinds.ps reads.Asked
+list-sheet-asks-nothing κs a = tt
 
 pub list-sheet-settled : Settled kinds.ps kinds.r reads.Learnt
 list-sheet-settled κs a x y s t p q = p .0 .0 ∙ sym (q .0 .0)

@@ -6,19 +6,24 @@ use mathlib.Core.Bool.{cond}
 use lib.Dec.{ltb}
 use lib.IntN.{ℤ, pos, negsuc}
 use lib.ListN.{length, take, replicate}
+use Rattle.stored.specs.Numbers.{number2, number4}
+use Rattle.stored.specs.Words.{words}
 use Rattle.formula.specs.declared.Kind.{Kind}
 use Rattle.formula.specs.declared.Kind.the-variants.{Polynomial, Rational, Fraction, Root, NoFormula}
 use Rattle.formula.specs.declared.Formula.{Formula}
-use Rattle.table.specs.Table.{rows, firstRow, rowOf, wordsBy}
-use Rattle.layout.specs.Numbers.{number2, number4}
-use Rattle.layout.specs.Fields.{firstCount, fieldOf, shape, shapeOf, words, padded, formula, formulaOf}
-use Rattle.records.specs.Faults.{frameFault, bytesAt, rowFor, outside, countFault, sizeFault, lengthFault, startFault, orderFault, endFault, intervalFault, wordsFault, valueFault, innerFault, recordFault}
-use Rattle.records.specs.declared.refusal.Refusal.{Refusal}
-use Rattle.walking.specs.Walking.{foundBy, ending, recordStep, stepOf, walkFrom, walkOf}
+use Rattle.table.specs.Table.{rows, firstRow, rowOf, piecesBy}
+use Rattle.layout.specs.Fields.{bytesAt, firstCount, fieldOf, shape, shapeOf, padded, formula, formulaOf}
+use Rattle.records.specs.Faults.{frameFault, outside, countFault, sizeFault, lengthFault, startFault, scaleFault, orderFault, endFault, valueFault, ownFault, intervalFault, wordsFault}
+use Rattle.records.specs.declared.Refusal.{Refusal}
+use Rattle.walking.specs.Walking.{recordFault, faultAt, foundBy, ending, walkFrom, walkOf}
 use Rattle.sheet.specs.declared.answers.FormulaCount.{FormulaCount}
 use Rattle.sheet.specs.declared.answers.FormulaCount.the-variants.{Count, Refused}
-use Rattle.sheet.specs.Reader.{formulaCount, formulaAt}
+use Rattle.sheet.specs.Reader.{formulaCount, formulaIn, formulaAt}
 use Rattle.text.specs.Text.{text, digitsBy, decimal, signed}
+
+-- a listing is of a sheet at so many binary places
+abbrev pub places : ℕ
+places = 24
 
 abbrev pub kindName : Kind → List ℕ
 kindName Polynomial = text "polynomial"
@@ -37,8 +42,8 @@ lineOf f = decimal (f .number) ++ text " " ++ kindName (f .shape .kind) ++ inter
 
 -- in sheet order: the line of the formula at a place, and on by its record's length
 unfoldable pub linesFrom : ℕ → List ℕ → ℕ → List ℕ
-linesFrom zero s place = []
-linesFrom (suc n) s place = lineOf (formulaAt s place) ++ linesFrom n s (place + number4 s place)
+linesFrom zero bytes place = []
+linesFrom (suc n) bytes place = lineOf (formulaAt bytes place) ++ linesFrom n bytes (place + number4 bytes place)
 
 unfoldable pub countLine : ℕ → List ℕ
 countLine c = text "formulas " ++ decimal c ++ text "\n"
@@ -48,16 +53,16 @@ refusalLine r = text "refused " ++ decimal (r .number) ++ text " at " ++ decimal
 
 -- the first formula stands behind the start record
 abbrev pub listingBy : List ℕ → FormulaCount → List ℕ
-listingBy s (Refused r) = refusalLine r
-listingBy s (Count c) = countLine c ++ linesFrom c s (number4 s 0)
+listingBy bytes (Refused r) = refusalLine r
+listingBy bytes (Count c) = countLine c ++ linesFrom c bytes (number4 bytes 0)
 
 unfoldable pub listing : List ℕ → List ℕ
-listing s = cond (ltb 8192 (length s)) (text "too long\n") (listingBy s (formulaCount s))
+listing bytes = cond (ltb 8192 (length bytes)) (text "too long\n") (listingBy bytes (formulaCount places bytes))
 
 -- the lines of records, each from its own bytes
 abbrev pub linesOf : List (List ℕ) → List ℕ
 linesOf [] = []
-linesOf (b ∷ bs) = lineOf (formulaOf (rowFor b) b) ++ linesOf bs
+linesOf (b ∷ bs) = lineOf (formulaIn b) ++ linesOf bs
 
 -- ---- worked examples
 negative-end : lineOf (formula 7 (shape Polynomial 1 0 0) (negsuc 33554431) (pos 33554432) (padded [])) ≡ text "7 polynomial -33554432 33554432\n"
@@ -80,5 +85,5 @@ paper-listings :
     × (listing [] ≡ text "refused 1 at 0\n")
     × (listing (replicate 8192 0) ≡ text "refused 2 at 0\n")
     × (listing (replicate 8193 0) ≡ text "too long\n")
-unfolding listing countLine refusalLine linesFrom lineOf digitsBy decimal formulaCount walkOf walkFrom stepOf recordStep ending foundBy frameFault bytesAt recordFault lengthFault sizeFault countFault outside startFault orderFault endFault intervalFault wordsFault valueFault innerFault number2 number4 rows firstRow rowOf firstCount fieldOf shapeOf wordsBy words padded formulaOf
+unfolding listing countLine refusalLine linesFrom lineOf digitsBy decimal formulaCount walkOf walkFrom faultAt foundBy ending frameFault bytesAt recordFault lengthFault sizeFault countFault outside startFault scaleFault orderFault endFault valueFault ownFault intervalFault wordsFault number2 number4 words rows firstRow rowOf firstCount fieldOf shapeOf piecesBy formulaOf
 paper-listings = (refl, refl, refl, refl, refl, refl, refl)

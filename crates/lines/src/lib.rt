@@ -3,17 +3,18 @@ ghost use mathlib.Core.Path.{_≡_};
 ghost use mathlib.Core.List.{_++_};
 ghost use Prim.Native.Nat.{_+_, _*_, _≤_};
 ghost use lib.ListN.{length, drop};
-ghost use Rattle.layout.specs.Fields.{formulaOf};
-ghost use Rattle.layout.specs.Numbers.{number4};
-ghost use Rattle.records.specs.Faults.{rowFor};
-ghost use Rattle.sheet.specs.Reader.{formulaCount};
+ghost use Rattle.stored.specs.Numbers.{number4};
+ghost use Rattle.sheet.specs.Reader.{formulaCount, formulaIn};
 ghost use Rattle.text.specs.Text.{Puts};
-ghost use Rattle.lines.specs.Listing.{kindName, intervalText, lineOf, linesFrom, countLine, refusalLine, listing};
+ghost use Rattle.lines.specs.Listing.{places, kindName, intervalText, lineOf, linesFrom, countLine, refusalLine, listing};
 use formula::Kind;
-use layout::numbers;
+use layout::fields;
 use records::Refusal;
 use sheet::answers::FormulaCount;
 use sheet::reader;
+
+// A listing is of a sheet at so many binary places.
+const PLACES: u32 = 24;
 
 fn put_kind(out: &mut [u8], at: usize, kind: Kind) -> usize
     requires { ⌜ at + 10 ≤ length (now out) ⌝ }
@@ -43,28 +44,28 @@ fn put_interval(out: &mut [u8], at: usize, lo: i32, hi: i32) -> usize
 // The line of a formula record.
 fn put_line(out: &mut [u8], at: usize, b: &[u8]) -> usize
     requires { ⌜ (at + 41 ≤ length (now out)) × (16 ≤ length (now b)) ⌝ }
-    ensures { λ r. ⌜ Puts (now (out .entry)) at (lineOf (formulaOf (rowFor (now (b .entry))) (now (b .entry)))) (now (out .exit)) r × (r ≤ at + 41) ⌝ }
+    ensures { λ r. ⌜ Puts (now (out .entry)) at (lineOf (formulaIn (now (b .entry)))) (now (out .exit)) r × (r ≤ at + 41) ⌝ }
 {
-    let row = table::row_of(numbers::get2(b, 4));
+    let row = table::row_of(fields::code(b));
     let kind = row.kind;
-    let c = text::put_decimal(out, at, numbers::get2(b, 6) as usize);
+    let c = text::put_decimal(out, at, fields::number(b) as usize);
     let d = text::put_text(out, c, b" ");
     let e = put_kind(out, d, kind);
-    put_interval(out, e, numbers::get_word(b, 8), numbers::get_word(b, 12))
+    put_interval(out, e, fields::lo(b), fields::hi(b))
 }
 
 // The sheet has been accepted: its records are not checked again.
 fn put_lines(out: &mut [u8], at: usize, s: &[u8], count: u16) -> usize
-    requires { ⌜ (formulaCount (now s) ≡ FormulaCount.Count count) × (at + 41 * count ≤ length (now out)) ⌝ }
+    requires { ⌜ (formulaCount places (now s) ≡ FormulaCount.Count count) × (at + 41 * count ≤ length (now out)) ⌝ }
     ensures { λ r. ⌜ Puts (now (out .entry)) at (linesFrom count (now (s .entry)) (number4 (now (s .entry)) 0)) (now (out .exit)) r × (r ≤ at + 41 * count) ⌝ }
 {
     let mut end = at;
-    let mut place = numbers::get4(s, 0) as usize;
+    let mut place = fields::record_at(s, 0).len();
     let mut left = count;
     while 0 < left {
-        let next = place + numbers::get4(s, place) as usize;
-        end = put_line(out, end, &s[place..next]);
-        place = next;
+        let b = fields::record_at(s, place);
+        end = put_line(out, end, b);
+        place += b.len();
         left -= 1;
     }
     end
@@ -92,13 +93,13 @@ fn put_refusal(out: &mut [u8], r: Refusal) -> usize
 
 // The text at the start of the buffer, and its length. The buffer is longer than any listing.
 pub fn list_sheet(s: &[u8], out: &mut [u8; 4096]) -> usize
-    ensures { λ n. ⌜ (n ≡ length (listing (now (s .entry)))) × (now (out .exit) ≡ listing (now (s .entry)) ++ drop n (now (out .entry))) ⌝ }
-    ensures { λ n. ⌜ (n ≤ 4096) × (length (now (out .exit)) ≡ 4096) ⌝ }
+    ensures text { λ n. ⌜ (n ≡ length (listing (now (s .entry)))) × (now (out .exit) ≡ listing (now (s .entry)) ++ drop n (now (out .entry))) ⌝ }
+    ensures fits { λ n. ⌜ (n ≤ 4096) × (length (now (out .exit)) ≡ 4096) ⌝ }
 {
     if 8192 < s.len() {
         return text::put_text(out, 0, b"too long\n");
     }
-    match reader::formula_count(s) {
+    match reader::formula_count(s, PLACES) {
         FormulaCount::Count(count) => {
             let at = put_count(out, count);
             put_lines(out, at, s, count)

@@ -1,3 +1,4 @@
+-- `list_sheet` meets its contract: by the input's length, then by the reader's answer; each text is put at the front, and has room there.
 use borrow.Author.Needs.{needs}
 use mathlib.Core.Path.{_≡_, _∙_, sym}
 use native.Mathlib.Omega.{arith}
@@ -31,7 +32,7 @@ put-lines-requires c κs =
     let f = k .before .before in
     let s = f .before .before .before in
     let e = sym (f .formula-count .ensures) ∙ k .count .given .1 in
-    let h = shape-of-count _ (now (s .args .s)) e in
+    let h = shape-of-count _ _ (now (s .args .s)) e in
     (e, omega (arith, h .opens .3, n .put-count .ensures .1, n .put-count .kept .0, room-count (n .before)))
 
 returns-2 : tie.Need-returns-2
@@ -42,7 +43,7 @@ returns-2 c =
     let i = f .before in
     let s = i .before .before in
     let e = sym (f .formula-count .ensures) ∙ k .count .given .1 in
-    let h = shape-of-count _ (now (s .args .s)) e in
+    let h = shape-of-count _ _ (now (s .args .s)) e in
     front (not-too-long (now (s .args .s)) _ (i .if1 .left) e) (behind (n .put-count .ensures .0) (c .put-lines .ensures .0))
     (omega (arith, h .opens .3, n .put-count .ensures .1, c .put-lines .ensures .1)) (room-count (n .before))
 

@@ -1,3 +1,4 @@
+-- `put_count` meets its contract: three texts one behind the other; a count has at most five digits.
 use borrow.Author.Needs.{needs}
 use Prim.Native.Nat.{_≤_, _<_}
 use native.Mathlib.Omega.{arith}

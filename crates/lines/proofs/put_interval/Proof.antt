@@ -1,3 +1,4 @@
+-- `put_interval` meets its contract: five texts one behind the other, at most 25 characters in all.
 use borrow.Author.Needs.{needs}
 use native.Mathlib.Omega.{arith}
 use mir.Facts.{toZ-ofZ}

@@ -1,6 +1,7 @@
+-- `put_kind` meets its contract: kind by kind, the name's own text.
 use borrow.Author.Needs.{needs}
 use native.Mathlib.Omega.{arith}
-use Rattle.text.proofs.TextLaws.{nothing}
+use Rattle.text.proofs.TextLaws.{begin, done}
 use Rattle.lines.proofs.put_kind.Statement.{statement}
 use Rattle.lines.proofs.put_kind.Tie as tie
 
@@ -25,7 +26,7 @@ returns-4 c =
     (rw (t .before .before .before .enum-told4 .given .1) (t .put-text4 .ensures), omega (arith, t .put-text4 .ensures .end))
 
 returns-5 : tie.Need-returns-5
-returns-5 c = (rw (c .enum-told5 .given .1) (nothing _ _), omega arith)
+returns-5 c = (rw (c .enum-told5 .given .1) (done (begin _ _ _)), omega arith)
 
 pub put-kind-spec : {M : Type 1} → statement M
 put-kind-spec =

@@ -1,3 +1,4 @@
+-- `put_line` meets its contract: number, kind name and interval one behind the other, each by the record's own field.
 use borrow.Author.Needs.{needs}
 use Prim.Native.Nat.{_≤_, _<_}
 use native.Mathlib.Omega.{arith}
@@ -12,10 +13,10 @@ use Rattle.lines.specs.Listing.{lineOf}
 use Rattle.lines.proofs.put_line.Statement.{statement}
 use Rattle.lines.proofs.put_line.Tie as tie
 
-five : (c : tie.After-get22) → length (decimal (c .get22 .result)) ≤ 5
+five : (c : tie.After-number) → length (decimal (c .number .result)) ≤ 5
 five c =
-    let h : c .get22 .result < 65536 = search needs in
-    short 4 (c .get22 .result) (omega (arith, h))
+    let h : c .number .result < 65536 = search needs in
+    short 4 (c .number .result) (omega (arith, h))
 
 put-decimal-requires : tie.Need-put-decimal-requires
 put-decimal-requires c κs =
@@ -67,11 +68,11 @@ returns c =
     let d = t .before .before .before .before .before in
     let n = d .before in
     let row = n .before .before in
-    let kind = rw (row .row-of .ensures, row .before .get2 .ensures) at (k .put-kind .ensures .0) in
-    let number = rw (n .get22 .ensures) at (d .put-decimal .ensures) in
-    let f : SFits w32 (lo .get-word .result) = record { sfits = lo .get-word .ok } in
-    let g : SFits w32 (hi .get-word2 .result) = record { sfits = hi .get-word2 .ok } in
-    let ends = rw (toZ-ofZ f, toZ-ofZ g, lo .get-word .ensures, hi .get-word2 .ensures) at (i .put-interval .ensures .0) in (
+    let kind = rw (row .row-of .ensures, row .before .code .ensures) at (k .put-kind .ensures .0) in
+    let number = rw (n .number .ensures) at (d .put-decimal .ensures) in
+    let f : SFits w32 (lo .lo .result) = record { sfits = lo .lo .ok } in
+    let g : SFits w32 (hi .hi .result) = record { sfits = hi .hi .ok } in
+    let ends = rw (toZ-ofZ f, toZ-ofZ g, lo .lo .ensures, hi .hi .ensures) at (i .put-interval .ensures .0) in (
       behind (behind (behind number (t .put-text .ensures)) kind) ends,
       omega (arith, five n, d .put-decimal .ensures .end, t .put-text .ensures .end, k .put-kind .ensures .1, i .put-interval .ensures .1),
     )

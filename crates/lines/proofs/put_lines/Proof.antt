@@ -1,70 +1,61 @@
+-- `put_lines` meets its contract: at each turn the formula records that are left stand ahead, and the lines that are left are theirs.
 use borrow.Author.Needs.{needs}
-use mathlib.Core.Path.{_≡_, _∙_, refl}
+use mathlib.Core.Path.{_≡_, _∙_, refl, ap}
 use Prim.Native.Nat.{_+_, _*_, _≤_}
 use native.Mathlib.Omega.{arith}
 use lib.ListN.{length}
 use denote.Ref.{now}
-use Rattle.layout.specs.Numbers.{number4}
-use Rattle.records.proofs.Steps.{part-is}
+use Rattle.stored.specs.Numbers.{number4}
+use Rattle.layout.proofs.Cut.{length-bytesAt}
+use Rattle.sheet.specs.Reader.{FormulaStands}
 use Rattle.text.proofs.TextLaws.{Left, begin, less, done}
-use Rattle.lines.specs.Listing.{linesFrom}
-use Rattle.lines.proofs.LineLaws.{Ahead, here, one-line, no-line, Whole, whole, start-inside, ahead, shape-of-count}
+use Rattle.lines.specs.Listing.{places, linesFrom}
+use Rattle.lines.proofs.LineLaws.{Ahead, here, one-line, no-line, long, start-reach, ahead, shape-of-count}
 use Rattle.lines.proofs.put_lines.Statement.{statement}
 use Rattle.lines.proofs.put_lines.Tie as tie
 
 abbrev Inv-loop : tie.InvT-loop
 Inv-loop out₀ at s count end₀ place₀ left₀ out end place left =
-    (length out ≡ length out₀) × Ahead left s place × (end + 41 * left ≤ at + 41 * count) × Left out₀ at (linesFrom count s (number4 s 0)) out end (linesFrom left s place)
+    (length out ≡ length out₀) × Ahead places left s place × (end + 41 * left ≤ at + 41 * count) × Left out₀ at (linesFrom count s (number4 s 0)) out end (linesFrom left s place)
 
 abbrev μ-loop : tie.MeasureT-loop
 μ-loop out₀ at s count end₀ place₀ left₀ out end place left = left
 
-get4-requires : tie.Need-get4-requires Inv-loop μ-loop
-get4-requires c κs =
-    let s = c .before .before in
-    start-inside _ _ (shape-of-count _ _ (s .pre .0))
-
-cast-place : tie.Need-cast-place Inv-loop μ-loop
-cast-place c = search needs
+record-at-requires : tie.Need-record-at-requires Inv-loop μ-loop
+record-at-requires c κs = start-reach _ _ _ (shape-of-count _ _ _ (c .before .before .pre .0))
 
 loop-holds : tie.Need-loop-holds Inv-loop μ-loop
 loop-holds c =
     let s = c .before .before .before in
-    rw (c .get4 .ensures) (refl, ahead _ _ (shape-of-count _ _ (s .pre .0)), omega arith, begin _ _ _)
+    let h = shape-of-count _ _ _ (s .pre .0) in
+    let n = ap length (c .record-at .ensures) ∙ length-bytesAt _ _ (start-reach _ _ _ h) in
+    rw n (refl, ahead _ _ _ h, omega arith, begin _ _ _)
 
--- the record at the loop's place
-now-whole : (c : tie.In-loop Inv-loop μ-loop) → Whole (now (c .before .before .before .before .before .args .s)) (c .before .loop .place)
-now-whole c = whole _ _ (here _ _ _ (c .loop-test .taken) (c .before .loop .inv .1) .0)
+-- the record at the loop's place, and its length
+standing : (c : tie.In-loop Inv-loop μ-loop) → FormulaStands places (now (c .before .before .before .before .before .args .s)) (c .before .loop .place)
+standing c = here _ _ _ _ (c .loop-test .taken) (c .before .loop .inv .1) .0
 
-get4-requires-2 : tie.Need-get4-requires-2 Inv-loop μ-loop
-get4-requires-2 c κs = now-whole c .starts
+size : (c : tie.After-record-at2 Inv-loop μ-loop) → length (now (c .record-at2 .result)) ≡ number4 (now (c .before .before .before .before .before .before .args .s)) (c .before .before .loop .place)
+size c = ap length (c .record-at2 .ensures) ∙ length-bytesAt _ _ (standing (c .before) .reach)
 
-cast-next : tie.Need-cast-next Inv-loop μ-loop
-cast-next c = search needs
-
-add-next : tie.Need-add-next Inv-loop μ-loop
-add-next c =
-    let w = now-whole (c .before) in
-    record { fits = omega (arith, w .ends, c .get42 .ensures, c .before .before .before .before .before .before .good .1 .0) }
-
-sub-put-line : tie.Need-sub-put-line Inv-loop μ-loop
-sub-put-line c = search needs
-
-part-put-line-start : tie.Need-part-put-line-start Inv-loop μ-loop
-part-put-line-start c = search needs
-
-part-put-line-end : tie.Need-part-put-line-end Inv-loop μ-loop
-part-put-line-end c = omega (arith, now-whole (c .before .before) .ends, c .before .get42 .ensures)
+record-at-requires-2 : tie.Need-record-at-requires-2 Inv-loop μ-loop
+record-at-requires-2 c κs = standing c .reach
 
 put-line-requires : tie.Need-put-line-requires Inv-loop μ-loop
 put-line-requires c κs =
-    let g = c .before .before in
-    let i = g .before in
+    let b = c .before in
+    let i = b .before in
     let l = i .before in
     let s = l .before .before .before .before in (
       omega (arith, l .loop .inv .0, l .loop .inv .2, i .loop-test .taken, s .pre .1),
-      rw (part-is (now (s .args .s)) (l .loop .place) (g .get42 .result) (g .get42 .ensures)) (now-whole i .long),
+      rw (b .record-at2 .ensures) (long _ _ _ (standing i)),
     )
+
+add-place : tie.Need-add-place Inv-loop μ-loop
+add-place c =
+    let b = c .before .before .before .before in
+    let s = b .before .before .before .before .before .before in
+    record { fits = omega (arith, standing (b .before) .reach .whole, size b, s .good .1 .0) }
 
 sub-left : tie.Need-sub-left Inv-loop μ-loop
 sub-left c = search needs
@@ -75,17 +66,15 @@ loop-less c = search needs
 loop-again : tie.Need-loop-again Inv-loop μ-loop
 loop-again c =
     let p = c .before .before in
-    let g = p .before .before .before in
-    let i = g .before in
+    let b = p .before .before in
+    let i = b .before in
     let l = i .before in
     let s = l .before .before .before .before in
-    let sheet = now (s .args .s) in
-    let place = l .loop .place in
-    let line = rw (part-is sheet place (g .get42 .result) (g .get42 .ensures)) at (p .put-line .ensures .0) in
-    let rest = rw (one-line (l .loop .left) sheet place (i .loop-test .taken)) at (l .loop .inv .3) in
-    rw (g .get42 .ensures) (
+    let line = rw (b .record-at2 .ensures) at (p .put-line .ensures .0) in
+    let rest = rw (one-line (l .loop .left) (now (s .args .s)) (l .loop .place) (i .loop-test .taken)) at (l .loop .inv .3) in
+    rw (size b) (
       p .put-line .kept .0 ∙ l .loop .inv .0,
-      here _ _ _ (i .loop-test .taken) (l .loop .inv .1) .1,
+      here _ _ _ _ (i .loop-test .taken) (l .loop .inv .1) .1,
       omega (arith, l .loop .inv .2, p .put-line .ensures .1, i .loop-test .taken),
       less rest line,
     )
@@ -108,16 +97,11 @@ put-lines-spec =
     (tie.spec
     Inv-loop
     μ-loop
-    get4-requires
-    cast-place
+    record-at-requires
     loop-holds
-    get4-requires-2
-    cast-next
-    add-next
-    sub-put-line
-    part-put-line-start
-    part-put-line-end
+    record-at-requires-2
     put-line-requires
+    add-place
     sub-left
     loop-less
     loop-again

@@ -1,3 +1,4 @@
+-- `put_refusal` meets its contract: five texts one behind the other; a number has at most 3 digits, a place at most 20.
 use borrow.Author.Needs.{needs}
 use Prim.Native.Nat.{_≤_, _<_}
 use native.Mathlib.Omega.{arith}
