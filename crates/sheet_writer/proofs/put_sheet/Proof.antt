@@ -48,7 +48,7 @@ put-framing-requires-2 c κs =
     let f = b .before .before .before .before in (
       rw (c .row-of2 .ensures) (ruled 0xffff),
       omega
-      (arith, head f, start f .pre, start-head, end-head, as-long (now (start f .args .out)) 0 (framingBytes (f .before .before .row-of .result) (start f .args .count)) (f .put-framing .ensures), as-long (f .put-framing .last .0) (f .before .before .row-of .result .head) (now (start f .args .run)) (b .put-bytes .ensures)),
+          (arith, head f, start f .pre, start-head, end-head, as-long (now (start f .args .out)) 0 (framingBytes (f .before .before .row-of .result) (start f .args .count)) (f .put-framing .ensures), as-long (f .put-framing .last .0) (f .before .before .row-of .result .head) (now (start f .args .run)) (b .put-bytes .ensures)),
     )
 
 returns : tie.Need-returns
