@@ -1,9 +1,7 @@
--- A formula without the fields that its kind has not: its words, and that it is ready for its record.
+-- The words that a formula keeps without the fields that its kind has not are its own.
 use mathlib.Core.Path.{_≡_, subst}
-use mathlib.Core.List.{List}
 use Prim.Native.Nat.{ℕ, _≤_}
-use native.Mathlib.Omega.{arith}
-use lib.ListN.{length, take, length-append, length-replicate}
+use lib.ListN.{length, take}
 use lib.Seq.{length-take-le}
 use Rattle.formula.specs.declared.Formula.{Formula}
 use Rattle.formula.specs.Formula.{wordCount}

@@ -3,7 +3,7 @@ use mathlib.Core.Path.{_≡_, _∙_, refl, sym, ap}
 use mathlib.Core.List.{List, [], _∷_, _++_, append-assoc, append-nil}
 use mathlib.Core.Logic.{inl, inr}
 use mathlib.Core.Bool.{Bool, true, false, cond}
-use Prim.Native.Nat.{ℕ, suc, _+_, _*_, _<_, _≤_}
+use Prim.Native.Nat.{ℕ, _+_, _*_, _<_}
 use native.Mathlib.Numerals.{add-one}
 use native.Mathlib.Omega.{arith}
 use lib.Dec.{eqb}
@@ -21,7 +21,7 @@ use Rattle.table.specs.declared.Row.{Row}
 use Rattle.table.specs.Table.{piecesBy, lengthBy}
 use Rattle.table.specs.Order.{fieldSize, Stands, Ordered}
 use Rattle.layout.specs.Plain.{wordsIn}
-use Rattle.layout.specs.Bytes.{frontBytes, framingBytes, headBytes, fieldBytes, fieldsBytes, wordBytes, recordBytes, Ready}
+use Rattle.layout.specs.Bytes.{frontBytes, headBytes, fieldBytes, fieldsBytes, wordBytes, recordBytes, Ready}
 
 -- ---- the front, the head and the fields
 

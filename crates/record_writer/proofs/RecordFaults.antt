@@ -1,15 +1,13 @@
 -- A formula's faults are those of its record's bytes, because it is read again from them.
 use mathlib.Core.Path.{_≡_, _∙_, refl, sym, ap}
-use mathlib.Core.List.{List}
 use Prim.Native.Nat.{ℕ, _≤_}
 use native.Mathlib.Omega.{arith}
 use lib.ListN.{length}
 use borrow.Author.Tests.{eq-eqb, le-ltb}
 use Rattle.formula.specs.declared.Formula.{Formula}
 use Rattle.table.specs.declared.Row.{Row}
-use Rattle.table.specs.Table.{lengthBy}
 use Rattle.table.proofs.Rule.{short}
-use Rattle.layout.specs.Fields.{rowFor, formulaNumber, shapeOf, loOf, hiOf, wordsOf}
+use Rattle.layout.specs.Fields.{rowFor, formulaNumber}
 use Rattle.layout.specs.Plain.{wordsIn}
 use Rattle.layout.specs.Bytes.{recordBytes}
 use Rattle.layout.proofs.RecordLaws.{length-record}

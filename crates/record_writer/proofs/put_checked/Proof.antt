@@ -2,7 +2,7 @@
 use borrow.Author.Needs.{needs}
 use mathlib.Core.Path.{_≡_, _∙_, refl, sym, ap}
 use mathlib.Core.List.{List}
-use Prim.Native.Nat.{ℕ, _≤_}
+use Prim.Native.Nat.{ℕ}
 use native.Mathlib.Omega.{arith}
 use lib.ListN.{length, getD, take, replicate}
 use lib.Seq.{sets, length-sets, length-take-le}
@@ -12,7 +12,6 @@ use mir.Syntax.{w32}
 use mir.Val.{SFits}
 use Rattle.formula.specs.declared.Formula.{Formula}
 use Rattle.table.specs.declared.Class.the-variants.{FormulaRecord}
-use Rattle.table.specs.declared.Row.{Row}
 use Rattle.table.specs.Table.{rowOf}
 use Rattle.layout.specs.Plain.{Handed, plainShape, plainBy, rowBy, plain}
 use Rattle.layout.specs.Bytes.{Ready}

@@ -1,9 +1,7 @@
 -- `layout::putting::put_front` meets its contract: three runs of stores, one behind the other.
 use borrow.Author.Needs.{needs}
-use mathlib.Core.Path.{_≡_}
 use mathlib.Core.List.{_++_}
 use Prim.Native.Nat.{_+_}
-use native.Mathlib.Omega.{arith}
 use lib.ListN.{length-append}
 use denote.Ref.{now}
 use Rattle.stored.specs.Numbers.{bytes2, bytes4}
