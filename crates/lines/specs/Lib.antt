@@ -1,1 +1,2 @@
+-- The listing of a sheet.
 pub mod Listing

@@ -1,4 +1,4 @@
--- The text is as long as its own count says.
+-- `main` meets its contract: the text that is written is as long as its own count says.
 use borrow.Author.Needs.{needs}
 use mathlib.Core.Path.{sym}
 use native.Mathlib.Omega.{arith}
