@@ -5,7 +5,7 @@ ghost use lib.ListN.{length};
 ghost use Rattle.word.specs.Words.{Scale};
 ghost use Rattle.records.specs.Guard.{refusal};
 ghost use Rattle.layout.specs.Fields.{rowFor};
-ghost use Rattle.walking.specs.Walking.{roomFor, begin, afterStart, foundBy, afterFormula, ending, startRecordFault, endRecordFault, otherRecordFault, recordFault, faultAt, runDone, walkOf, Walkable, Standing};
+ghost use Rattle.walking.specs.Walking.{roomFor, begin, afterStart, foundBy, afterFormula, ending, startRecordFault, endRecordFault, otherRecordFault, recordFault, faultAt, walkOf, Walkable, Standing};
 use layout::fields;
 use records::Refusal;
 use records::formulas;
@@ -165,24 +165,15 @@ fn fault_at(bytes: &[u8], from: usize, w: Walk, s: u32) -> u8
     record_fault(fields::record_at(bytes, at), from, w, s)
 }
 
-// A run has come to its last byte.
-fn run_done(bytes: &[u8], from: usize, w: Walk) -> bool
-    requires { ⌜ Standing (now bytes) from w ⌝ }
-    ensures { λ r. ⌜ r ≡ runDone (now (bytes .entry)) from w ⌝ }
-{
-    if from == 0 {
-        return false;
-    }
-    w.at - from == bytes.len()
-}
-
+// A run is whole at its last byte. The test of `from` stands here, in the loop: the compiler then makes a loop of its own for a sheet
+// and for a run.
 pub fn walk_over(bytes: &[u8], from: usize, asked: u32, s: u32) -> Walked
     requires { ⌜ Walkable s from ⌝ }
     ensures { λ r. ⌜ r ≡ walkOf s (now (bytes .entry)) from asked ⌝ }
 {
     let mut w = begin(from, asked);
     loop {
-        if run_done(bytes, from, w) {
+        if from != 0 && w.at - from == bytes.len() {
             return Walked::Whole {
                 count: w.seen,
                 found: w.found,

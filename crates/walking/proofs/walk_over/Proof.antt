@@ -1,11 +1,13 @@
 -- `walking::walk_over` meets its contract. The invariant is `Going`: the whole answer is that of the walk from here on.
 use borrow.Author.Needs.{needs}
-use mathlib.Core.Path.{_≡_, _∙_, sym, ap}
+use mathlib.Core.Path.{_≡_, _∙_, refl, sym, ap}
 use mathlib.Core.List.{List}
+use mathlib.Core.Logic.{⊎-elim}
 use mathlib.Core.Bool.{false}
-use Prim.Native.Nat.{ℕ, _+_, _-_, _<_, _≤_}
+use Prim.Native.Nat.{ℕ, zero, suc, _+_, _-_, _<_, _≤_}
 use native.Mathlib.Omega.{arith}
 use denote.Ref.{now}
+use lib.Dec.{eqb}
 use lib.ListN.{length}
 use Rattle.table.specs.declared.Class.the-variants.{StartRecord, FormulaRecord, EndRecord}
 use Rattle.layout.specs.Fields.{codeOf, rowFor}
@@ -29,29 +31,38 @@ loop-holds c =
     let d = c .before .before in
     rw (c .begin .ensures) (starts (d .args .s) _ (d .args .from) (d .args .asked) (d .pre))
 
-run-done-requires : tie.Need-run-done-requires Inv-loop μ-loop
-run-done-requires c κs = c .loop .inv .standing
+-- ---- whether a run is done, by the two tests
+sheet : (bytes : List ℕ) (from : ℕ) (w : Walk) → from ≡ 0 → runDone bytes from w ≡ false
+sheet bytes from w e = ap (λ (n : ℕ). runDone bytes n w) e
+
+run : (bytes : List ℕ) (from : ℕ) (w : Walk) → ¬ (from ≡ 0) → runDone bytes from w ≡ eqb (w .at - from) (length bytes)
+run bytes zero w h = absurd (h refl)
+run bytes (suc n) w h = refl
+
+sub-if2 : tie.Need-sub-if2 Inv-loop μ-loop
+sub-if2 c = omega (arith, c .before .before .loop .inv .standing .begun)
 
 returns : tie.Need-returns Inv-loop μ-loop
 returns c =
-    let l = c .before .before in
+    let l = c .before .before .before in
     let a = l .before .before .before .args in
     sym (rest-is (a .s) _ (a .from) (a .asked) (l .loop .w) (l .loop .inv)
-    ∙ walk-done (a .s) _ (a .from) (l .loop .w) _ (sym (c .before .run-done .ensures) ∙ c .if1 .taken))
+    ∙ walk-done (a .s) _ (a .from) (l .loop .w) _ (run _ (a .from) (l .loop .w) (c .before .before .if1 .taken) ∙ c .if2 .taken))
 
--- ---- the run is not done
-module _ (c : tie.Else1 Inv-loop μ-loop) where
+-- ---- the run is not done, or there is none
+module _ (c : tie.Joined1 Inv-loop μ-loop) where
   abbrev start : tie.Start Inv-loop μ-loop
-  start = c .before .before .before .before .before
+  start = c .before .before .before .before
 
   abbrev w : Walk
-  w = c .before .before .loop .w
+  w = c .before .loop .w
 
   abbrev good : Going (start .args .s) (now (start .args .bytes)) (start .args .from) (start .args .asked) w
-  good = c .before .before .loop .inv
+  good = c .before .loop .inv
 
   not-done : runDone (now (start .args .bytes)) (start .args .from) w ≡ false
-  not-done = sym (c .before .run-done .ensures) ∙ c .if1 .left
+  not-done =
+      ⊎-elim (λ t. run _ (start .args .from) w (t .0 .taken) ∙ t .2 .left) (λ t. sheet _ (start .args .from) w (t .left)) (c .if1 .came)
 
 fault-at-requires : tie.Need-fault-at-requires Inv-loop μ-loop
 fault-at-requires c κs = (good c .standing, good c .scale)
@@ -62,11 +73,11 @@ returns-2 c =
     let e = f .before in
     let a = start e .args in
     c .refused .ensures
-    ∙ sym (rest-is (a .s) (now (a .bytes)) (a .from) (a .asked) (w e) (good e) ∙ walk-broken (a .s) (now (a .bytes)) (a .from) (w e) _ (not-done e) (f .fault-at .ensures) (c .before .if2 .taken))
+    ∙ sym (rest-is (a .s) (now (a .bytes)) (a .from) (a .asked) (w e) (good e) ∙ walk-broken (a .s) (now (a .bytes)) (a .from) (w e) _ (not-done e) (f .fault-at .ensures) (c .before .if3 .taken))
 
 -- ---- and there is no fault
-module _ (c : tie.Else2 Inv-loop μ-loop) where
-  abbrev e : tie.Else1 Inv-loop μ-loop
+module _ (c : tie.Else3 Inv-loop μ-loop) where
+  abbrev e : tie.Joined1 Inv-loop μ-loop
   e = c .before .before
 
   abbrev s : ℕ
@@ -85,7 +96,7 @@ module _ (c : tie.Else2 Inv-loop μ-loop) where
   here = recordHere bytes from (w e)
 
   no-fault : faultAt s bytes from (w e) ≡ 0
-  no-fault = sym (c .before .fault-at .ensures) ∙ c .if2 .left
+  no-fault = sym (c .before .fault-at .ensures) ∙ c .if3 .left
 
   many : 8 ≤ length here
   many = let f = frame s bytes from asked (w e) (good e) (not-done e) no-fault in omega (arith, f .least, long s bytes from asked (w e) (good e) (not-done e) no-fault)
@@ -100,7 +111,7 @@ record-at-requires c κs =
 
 -- ---- the record that was cut out
 module _ (c : tie.After-record-at Inv-loop μ-loop) where
-  abbrev d : tie.Else2 Inv-loop μ-loop
+  abbrev d : tie.Else3 Inv-loop μ-loop
   d = c .before .before
 
   long-enough : 8 ≤ length (now (c .record-at .result))
@@ -118,7 +129,7 @@ after-start-requires c κs = long-enough (c .before .before)
 
 -- past a start
 module _ (c : tie.After-after-start Inv-loop μ-loop) where
-  abbrev at : tie.Else2 Inv-loop μ-loop
+  abbrev at : tie.Else3 Inv-loop μ-loop
   at = d (c .before .before .before)
 
   opens : rowFor (here at) .class ≡ StartRecord
@@ -154,7 +165,7 @@ returns-3 c =
 
 -- ---- any other is a formula
 module _ (c : tie.At-match-rest Inv-loop μ-loop) where
-  abbrev there : tie.Else2 Inv-loop μ-loop
+  abbrev there : tie.Else3 Inv-loop μ-loop
   there = d (c .before .before)
 
   formula : rowFor (here there) .class ≡ FormulaRecord
@@ -192,7 +203,7 @@ walk-over-spec =
     μ-loop
     (λ c κs. search needs)
     loop-holds
-    run-done-requires
+    sub-if2
     returns
     fault-at-requires
     (λ c κs. search needs)
