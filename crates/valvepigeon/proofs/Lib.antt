@@ -1,1 +1,2 @@
+-- What holds of every function of the C library.
 pub mod Settled

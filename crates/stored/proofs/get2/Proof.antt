@@ -1,3 +1,4 @@
+-- `stored::get2` meets its contract: two bytes, the lower first.
 use borrow.Author.Needs.{needs}
 use Rattle.stored.specs.Numbers.{number2}
 use Rattle.stored.proofs.get2.Statement.{statement}

@@ -1,3 +1,4 @@
+-- `stored::get_word` meets its contract: the signed number of four bytes.
 use borrow.Author.Needs.{needs}
 use mathlib.Core.Path.{_∙_, ap}
 use mir.Syntax.{w32}

@@ -1,3 +1,4 @@
+-- `stored::pattern_of` meets its contract: the number that a signed one has as its pattern.
 use native.Mathlib.Omega.{arith}
 use mir.Facts.{toZ-ofZ}
 use Rattle.stored.proofs.Back.{high, low}

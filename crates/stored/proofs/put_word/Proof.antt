@@ -1,3 +1,4 @@
+-- `stored::put_word` meets its contract: the pattern, put as four bytes.
 use borrow.Author.Needs.{needs}
 use mir.Facts.{toZ-ofZ}
 use Rattle.stored.proofs.put_word.Statement.{statement}

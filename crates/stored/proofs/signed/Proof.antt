@@ -1,3 +1,4 @@
+-- `stored::signed` meets its contract: a pattern above the half stands for a negative number.
 use borrow.Author.Needs.{needs}
 use mathlib.Core.Path.{_≡_, ap}
 use Prim.Native.Nat.{_-_}
