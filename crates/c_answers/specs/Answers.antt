@@ -34,12 +34,12 @@ abbrev pub counted : FormulaCount → CountedFormulas
 counted (Count c) = record { refused = 0; place = 0; count = c }
 counted (NotCounted r) = record { refused = r .number; place = r .place; count = 0 }
 
-abbrev pub foundBy : Found → Formula → FoundFields
-foundBy Given f = record { refused = 0; place = 0; fields = fieldsOf f }
-foundBy (Withheld r) f = record { refused = r .number; place = r .place; fields = noFields }
+abbrev pub fieldsFound : Found → Formula → FoundFields
+fieldsFound Given f = record { refused = 0; place = 0; fields = fieldsOf f }
+fieldsFound (Withheld r) f = record { refused = r .number; place = r .place; fields = noFields }
 
 abbrev pub found : Reading → FoundFields
-found r = foundBy (r .found) (r .formula)
+found r = fieldsFound (r .found) (r .formula)
 
 abbrev pub worked : Evaluation → WorkedWord
 worked (Answered w) = record { refused = 0; place = 0; word = w .word }
