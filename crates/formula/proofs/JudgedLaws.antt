@@ -1,16 +1,14 @@
 -- What each kind's own admission has found, over numbers in bytes that may be no words: it admits words alone, since a bound within
 -- range shows that all are words; and of words it says what admission says.
-use mathlib.Core.Path.{_≡_, refl, sym, ap, ap₂, _∙_, subst}
-use mathlib.Core.List.{List, _++_}
+use mathlib.Core.Path.{sym, ap, ap₂, _∙_, subst}
+use mathlib.Core.List.{List}
 use Prim.Native.Nat.{ℕ, _+_, _*_}
-use lib.IntN.{ℤ}
-use lib.ListN.{take, drop}
+use lib.ListN.{take}
 use Rattle.stored.specs.Words.{words}
 use Rattle.stored.proofs.WordsLaws.{words-all, words-both, words-take, words-drop}
 use Rattle.admission.specs.Admission.{Judged}
 use Rattle.word.specs.Lists.{Words}
 use Rattle.word.proofs.ListLaws.{words-append}
-use Rattle.admission.specs.declared.Admission.the-variants.{Admitted}
 use Rattle.polynomial.specs.Polynomial.{polynomialAdmission, boundOf}
 use Rattle.polynomial.proofs.BoundLaws.{within-words, within-out}
 use Rattle.rational.specs.Rational.{rationalAdmission}

@@ -1,8 +1,7 @@
 -- What a sound formula says at the kind that it has, and where a rational's words stand.
-use mathlib.Core.Path.{_≡_, ap, subst}
+use mathlib.Core.Path.{_≡_, subst}
 use mathlib.Core.List.{List}
 use Prim.Native.Nat.{ℕ, _+_, _-_, _≤_}
-use native.Mathlib.Nat.{add-sub-cancel-left}
 use native.Mathlib.Omega.{arith}
 use lib.IntN.{ℤ}
 use lib.ListN.{length, take, drop, length-drop}
@@ -21,7 +20,3 @@ module _ (h : Shape) (lo hi : ℤ) (ws : List ℤ) (sound : Sound h lo hi ws) (k
 -- ---- the divisor's coefficients stand behind the numerator's
 pub length-second : (p q : ℕ) (ws : List ℤ) → p + q ≤ length ws → length (take q (drop p ws)) ≡ q
 length-second p q ws h = length-take-le q (drop p ws) (omega (arith, length-drop p ws))
-
--- as a slice has them
-pub second-part : (p q : ℕ) (ws : List ℤ) → take (p + q - p) (drop p ws) ≡ take q (drop p ws)
-second-part p q ws = ap (λ (m : ℕ). take m (drop p ws)) (add-sub-cancel-left p q)

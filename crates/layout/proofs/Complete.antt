@@ -1,19 +1,17 @@
 -- A record of a formula's row, of the length that its counts ask for, is long enough for all its fields, and its words are as many as
 -- its kind and counts ask for: they end where the record does, and an array of 32 holds them.
 use mathlib.Core.List.{List}
-use mathlib.Core.Path.{_≡_, _∙_, refl, sym, ap}
+use mathlib.Core.Path.{_≡_}
 use Prim.Native.Nat.{ℕ, _+_, _-_, _*_, _/_, _≤_}
 use native.Mathlib.Omega.{arith}
-use lib.ListN.{length, take}
-use lib.IntN.{ℤ}
-use Rattle.stored.proofs.WordsLaws.{length-words}
+use lib.ListN.{length}
 use Rattle.formula.specs.Formula.{wordCount, Stored}
-use Rattle.table.specs.Table.{piecesBy, lengthBy, Within}
+use Rattle.table.specs.Table.{piecesBy}
 use Rattle.table.specs.Rule.{Ruled}
 use Rattle.table.specs.declared.Class.the-variants.{FormulaRecord}
 use Rattle.table.specs.declared.Row.{Row}
 use Rattle.table.proofs.Rule.{few}
-use Rattle.layout.specs.Fields.{shapeOf, wordsOf, padded, Laid, Complete}
+use Rattle.layout.specs.Fields.{shapeOf, Laid, Complete}
 
 pub complete : (r : Row) (b : List ℕ) → Ruled r → r .class ≡ FormulaRecord → length b ≤ 120 → Laid r b → Complete r b
 complete r b u c n l =

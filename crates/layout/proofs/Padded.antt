@@ -13,10 +13,6 @@ use Rattle.stored.specs.Words.{words}
 use Rattle.stored.proofs.WordsLaws.{length-words, words-snoc}
 use Rattle.layout.specs.Fields.{padded}
 
-pub length-padded : (l : List ℤ) → length l ≤ 32 → length (padded l) ≡ 32
-unfolding padded
-length-padded l h = simp (length-append, length-replicate) (omega arith)
-
 pub padded-most : (l : List ℤ) → 32 ≤ length (padded l)
 unfolding padded
 padded-most l = simp (length-append, length-replicate) (omega arith)

@@ -7,8 +7,6 @@ use native.Mathlib.Omega.{arith}
 use lib.Dec.{ltb, eqb}
 use lib.ListN.{length, take}
 use lib.Seq.{sets, take-append-seam}
-use borrow.Author.Tests.{ltb-false}
-use Rattle.word.specs.Words.{Scale}
 use Rattle.stored.proofs.StoreLaws.{sets-front}
 use Rattle.formula.specs.declared.Formula.{Formula}
 use Rattle.table.specs.declared.Class.the-variants.{FormulaRecord}
@@ -22,7 +20,7 @@ use Rattle.layout.proofs.RecordBack.{Tidy}
 use Rattle.layout.proofs.HandedLaws as handed
 use Rattle.records.specs.Guard.{guard}
 use Rattle.records.specs.Faults.{countFault, valueFault, scaleFault, onlyFormula}
-use Rattle.records.proofs.Chain.{halts, goes, passed}
+use Rattle.records.proofs.Chain.{halts, goes}
 use Rattle.records.proofs.Lengths.{counted}
 use Rattle.record_writer.specs.Answers.{writingPlace, refusedBy}
 use Rattle.record_writer.specs.RecordWriter.{roomWriting, plainWriting, recordWriting, judgedWriting, bytesOf}

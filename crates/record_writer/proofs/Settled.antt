@@ -1,6 +1,6 @@
 -- Promise: the record writer asks nothing of its caller, and settles its result and its buffer: two results, and two later contents of
 -- the buffer, that satisfy its contract are equal.
-use mathlib.Core.Path.{_≡_, sym, ap, _∙_}
+use mathlib.Core.Path.{sym, ap, _∙_}
 use mathlib.Core.List.{List}
 use Prim.Native.Nat.{ℕ}
 use denote.Ref.{now}

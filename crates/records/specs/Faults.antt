@@ -21,7 +21,7 @@ use Rattle.table.specs.declared.Class.the-variants.{StartRecord, FormulaRecord,
 use Rattle.table.specs.declared.Field.{Field}
 use Rattle.table.specs.declared.Row.{Row}
 use Rattle.table.specs.Table.{rows, firstRow, rowOf, piecesBy, lengthBy}
-use Rattle.layout.specs.Fields.{countOf, formulaNumber, loOf, hiOf, firstCount, fieldOf, shapeOf, wordsOf}
+use Rattle.layout.specs.Fields.{formulaNumber, loOf, hiOf, firstCount, fieldOf, shapeOf, wordsOf}
 use Rattle.records.specs.Guard.{orElse}
 
 -- ---- the frame: fewer than 4 bytes left (1); length outside 8..120 (2); fewer bytes than the length (1)

@@ -16,7 +16,6 @@ use Rattle.layout.specs.Fields.{bytesAt, rowFor, formulaNumber, formulaOf}
 use Rattle.layout.specs.Plain.{Handed, plainBy, rowBy, plain}
 use Rattle.layout.proofs.RecordBack.{number-again, formula-back, row-back}
 use Rattle.records.specs.Faults.{scaleFault}
-use Rattle.records.specs.Guard.{guard}
 use Rattle.records.specs.Sheets.{FormulaBytes, EachFormula, Rising, inLine, Has, RunOf, SheetOf}
 use Rattle.walking.specs.Walking.{walkOf}
 use Rattle.walking.specs.declared.Walked.{Walked}
@@ -31,7 +30,6 @@ use Rattle.sheet.proofs.Places.{RecordAt, noted, stands, given}
 use Rattle.sheet.proofs.AcceptedShape.{walk-of, shape-count}
 use Rattle.record_writer.specs.Answers.{writingNumber, refusedBy}
 use Rattle.record_writer.specs.RecordWriter.{recordWriting, bytesOf}
-use Rattle.record_writer.specs.declared.answers.Writing.{Writing}
 use Rattle.record_writer.specs.declared.answers.Writing.the-variants.{Written}
 use Rattle.record_writer.proofs.RecordFaults.{bytes-back}
 use Rattle.record_writer.proofs.Accepted.{accepts, tidy}

@@ -30,7 +30,7 @@ use Rattle.layout.specs.Plain.{kept, plainShape, plainBy, rowBy, plain, wordsBy
 use Rattle.layout.specs.Bytes.{frontBytes, headBytes, fieldBytes, fieldsBytes, framingBytes, wordBytes, recordBytes}
 use Rattle.layout.proofs.BytesAgain.{bytes-left, bytes-right, glue, two-again, four-again, word-again, field-again, words-again}
 use Rattle.layout.proofs.Complete.{exactly}
-use Rattle.records.specs.Faults.{outside, intervalFault, ownFault, valueFault, countFault, sizeFault, lengthFault, scaleFault, onlyFormula}
+use Rattle.records.specs.Faults.{outside, intervalFault, ownFault, valueFault, countFault, sizeFault, lengthFault, onlyFormula}
 use Rattle.records.specs.Sheets.{RecordOf, FormulaBytes, EachFormula, inLine, Has, RunOf, SheetOf}
 use Rattle.records.proofs.Chain.{goes, passed, neither}
 use Rattle.records.proofs.Lengths.{inside, laid}
@@ -43,7 +43,7 @@ use Rattle.sheet.proofs.FormulasGiven.{found-exactly}
 use Rattle.record_writer.specs.Answers.{refusedBy}
 use Rattle.record_writer.specs.RecordWriter.{roomWriting, plainWriting, recordWriting, bytesOf}
 use Rattle.record_writer.specs.declared.answers.Writing.the-variants.{Written}
-use Rattle.sheet_writer.specs.SheetWriter.{added, runWalked, recordsIn, sheetBytes, sheetWriting, sheetOf}
+use Rattle.sheet_writer.specs.SheetWriter.{added, runWalked, recordsIn, sheetWriting, sheetOf}
 use Rattle.sheet_writer.specs.RoundTrips.{In, runOf, OwnRecord}
 use Rattle.sheet_writer.proofs.SheetLaws.{start-head, end-head}
 use Rattle.sheet_writer.proofs.SheetShape.{run-is-whole, sheet-written}

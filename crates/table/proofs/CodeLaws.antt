@@ -39,11 +39,6 @@ code-found c e h = at (by-code c rows)
     at (inl z) = absurd (subst Known (sym e ∙ ap (λ (r : Row). r .class) z) h)
     at (inr z) = z
 
--- no row has the code 0
-pub no-code : rowOf 0 ≡ unknown
-unfolding rowOf firstRow rows
-no-code = refl
-
 -- ---- a kind
 
 -- kind by kind: a new one adds its own

@@ -1,5 +1,5 @@
 -- What it says that there is no fault at the walk's place: the chain taken apart, and each class by itself.
-use mathlib.Core.Path.{_≡_, _∙_, refl, sym, subst}
+use mathlib.Core.Path.{_≡_, refl, sym, subst}
 use mathlib.Core.List.{List}
 use mathlib.Core.Bool.{Bool, true, false, cond}
 use mathlib.Core.Logic.{_⊎_, inl, inr}
@@ -11,10 +11,9 @@ use borrow.Author.Tests.{eq-eqb, eqb-true, eqb-false, ltb-false}
 use Rattle.word.specs.Words.{Scale}
 use Rattle.table.specs.declared.Class.{Class}
 use Rattle.table.specs.declared.Class.the-variants.{StartRecord, FormulaRecord, EndRecord, Unknown}
-use Rattle.table.specs.declared.Row.{Row}
 use Rattle.layout.specs.Fields.{rowFor, countOf, formulaNumber}
-use Rattle.records.specs.Guard.{guard, refusal}
-use Rattle.records.specs.Faults.{frameFault, outside, lengthFault, startFault, scaleFault, orderFault, endFault, innerFault}
+use Rattle.records.specs.Guard.{refusal}
+use Rattle.records.specs.Faults.{frameFault, lengthFault, startFault, orderFault, endFault, innerFault}
 use Rattle.records.proofs.ScaleLaws.{good-scale}
 use Rattle.records.proofs.Chain.{halts, goes, passed, met, neither}
 use Rattle.walking.specs.Walking.{placeFault, classFault, recordFault, recordHere, faultAt, onward, runDone, walkFrom}

@@ -1,12 +1,9 @@
 -- Laws of `All` over joined lists and of `Words` over parts of a list: by induction along the list.
-use mathlib.Core.Path.{sym, subst}
 use mathlib.Core.List.{List, [], _∷_, _++_}
 use Prim.Native.Nat.{ℕ, zero, suc, _+_}
 use native.Mathlib.Omega.{arith}
-use lib.IntN.{ℤ, pos}
-use lib.ListN.{take, drop}
-use lib.Seq.{getD-drop}
-use Rattle.word.specs.Words.{Word}
+use lib.IntN.{ℤ}
+use lib.ListN.{take}
 use Rattle.word.specs.Lists.{All, Words}
 
 pub all-append : (p : ℤ → Type 0) (a b : List ℤ) → All p a → All p b → All p (a ++ b)
@@ -24,6 +21,3 @@ take-words zero ws f i = omega arith
 take-words (suc m) [] f i = omega arith
 take-words (suc m) (w ∷ ws) f zero = f 0
 take-words (suc m) (w ∷ ws) f (suc i) = take-words m ws (λ j. f (suc j)) i
-
-pub drop-words : (m : ℕ) (ws : List ℤ) → Words ws → Words (drop m ws)
-drop-words m ws f i = subst Word (sym (getD-drop m ws i (pos 0))) (f (m + i))

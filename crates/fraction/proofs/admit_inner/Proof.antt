@@ -3,19 +3,16 @@
 use borrow.Author.Needs.{needs}
 use mathlib.Core.Path.{_≡_, sym, ap, ap₂, _∙_, subst}
 use mathlib.Core.List.{List}
-use Prim.Native.Nat.{ℕ, suc, _+_, _*_, _-_, _<_, _≤_}
+use Prim.Native.Nat.{ℕ, suc, _+_, _-_, _<_, _≤_}
 use native.Mathlib.Omega.{arith}
-use lib.IntN.{ℤ, pos, natAbs}
-use lib.ListN.{getD}
+use lib.IntN.{ℤ, natAbs}
 use mir.Syntax.{w32}
 use Rattle.whole.proofs.Held.{back, held, held-nat, given}
 use Rattle.word.specs.Words.{Word}
 use Rattle.stored.specs.Words.{words}
 use Rattle.stored.proofs.WordsLaws.{length-words}
 use Rattle.admission.specs.Admission.{Judged}
-use Rattle.word.specs.Lists.{Words}
-use Rattle.admission.specs.declared.Admission.{Admission}
-use Rattle.admission.specs.declared.Admission.the-variants.{Admitted, RangeLeft}
+use Rattle.admission.specs.declared.Admission.the-variants.{Admitted}
 use Rattle.admission.proofs.AdmissionLaws.{left-not, zero-not}
 use Rattle.fraction.specs.Fraction.{bAt, aAfter, at}
 use Rattle.fraction.specs.Admission.{admitFrom, admitInner, judgedTerm}

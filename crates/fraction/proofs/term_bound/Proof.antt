@@ -6,7 +6,7 @@ use Prim.Native.Nat.{ℕ, _-_}
 use native.Mathlib.Omega.{arith}
 use lib.IntN.{natAbs}
 use Rattle.whole.proofs.Held.{held-nat, arg}
-use Rattle.word.specs.Words.{Word, boundProduct}
+use Rattle.word.specs.Words.{boundProduct}
 use Rattle.fraction.specs.Admission.{gBound, termBound, judgedTerm}
 use Rattle.fraction.specs.declared.TermBound.{TermBound}
 use Rattle.fraction.specs.declared.TermBound.the-variants.{Least}

@@ -6,7 +6,7 @@ use Prim.Native.Nat.{ℕ, _+_, _*_, _-_, _<_, _≤_}
 use native.Mathlib.Nat.{mul-le-mul}
 use native.Mathlib.Omega.{arith}
 use lib.IntN.{ℤ, pos, natAbs}
-use lib.ListN.{length, getD, drop}
+use lib.ListN.{getD, drop}
 use mir.Syntax.{w32}
 use Rattle.whole.proofs.Held.{held-nat, given}
 use Rattle.stored.specs.Words.{words}

@@ -9,9 +9,7 @@ use lib.Seq.{sets, length-sets}
 use denote.Ref.{now}
 use Rattle.stored.proofs.StoreLaws.{next}
 use Rattle.table.specs.Codes.{startRow, endRow, the-start, the-end}
-use Rattle.table.specs.Table.{rowOf}
 use Rattle.table.specs.declared.Row.{Row}
-use Rattle.table.specs.Rule.{Ruled}
 use Rattle.table.proofs.Rule.{ruled}
 use Rattle.layout.specs.Bytes.{framingBytes}
 use Rattle.sheet_writer.proofs.SheetLaws.{start-head, end-head, length-framing}

@@ -1,6 +1,6 @@
 -- `write_walked` meets its contract: the two answers to a run that was walked over, and the room for it.
 use borrow.Author.Needs.{needs}
-use mathlib.Core.Path.{_≡_, _∙_, refl, sym}
+use mathlib.Core.Path.{_∙_, refl}
 use native.Mathlib.Omega.{arith}
 use borrow.Author.Tests.{lt-ltb, le-ltb}
 use denote.Ref.{now}

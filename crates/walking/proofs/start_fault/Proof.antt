@@ -1,7 +1,6 @@
 -- `walking::start_fault` meets its contract: the place, then the two links of its chain.
 use borrow.Author.Needs.{needs}
 use borrow.Author.Tests.{eq-eqb, ne-eqb}
-use mathlib.Core.Path.{_∙_, sym}
 use Rattle.records.proofs.Chain.{stop, pass}
 use Rattle.walking.proofs.start_fault.Statement.{statement}
 use Rattle.walking.proofs.start_fault.Tie as tie

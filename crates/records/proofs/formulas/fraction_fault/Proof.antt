@@ -1,19 +1,16 @@
 -- `records::formulas::fraction_fault` meets its contract: the front, then what the kind's own admission has found.
 use borrow.Author.Needs.{needs}
-use mathlib.Core.Path.{_≡_, _∙_, refl, sym, ap, subst}
+use mathlib.Core.Path.{_≡_, _∙_, refl, sym, ap}
 use mathlib.Core.List.{List}
-use Prim.Native.Nat.{ℕ, _+_}
+use Prim.Native.Nat.{ℕ}
 use native.Mathlib.Omega.{arith}
 use denote.Ref.{now}
-use Rattle.stored.specs.Words.{words}
-use Rattle.admission.specs.declared.Admission.{Admission}
-use Rattle.formula.specs.Formula.{mostOf}
 use Rattle.formula.specs.declared.Kind.the-variants.{Fraction}
 use Rattle.table.specs.declared.Class.the-variants.{FormulaRecord}
 use Rattle.table.specs.declared.Row.{Row}
 use Rattle.table.specs.Table.{rows, firstRow, rowOf}
 use Rattle.table.proofs.Rule.{ruled}
-use Rattle.layout.specs.Fields.{shapeOf, loOf, hiOf, Complete}
+use Rattle.layout.specs.Fields.{shapeOf, Complete}
 use Rattle.records.specs.Faults.{formulaFault}
 use Rattle.records.proofs.FormulaLaws.{front-stops, front-passes, front-complete, front-most, Found, reach-at, found-fault}
 use Rattle.records.proofs.formulas.fraction_fault.Statement.{statement}

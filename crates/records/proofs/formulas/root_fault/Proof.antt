@@ -1,6 +1,6 @@
 -- `records::formulas::root_fault` meets its contract: the front is all that a root can be refused for.
 use borrow.Author.Needs.{needs}
-use mathlib.Core.Path.{_≡_, _∙_, refl, ap}
+use mathlib.Core.Path.{_∙_, refl, ap}
 use denote.Ref.{now}
 use Rattle.table.specs.declared.Row.{Row}
 use Rattle.table.specs.Table.{rows, firstRow, rowOf}
