@@ -4,7 +4,7 @@ set -u
 cd "$(dirname "$0")/.." || exit 2
 . tests/lib.sh
 root=$PWD
-mkdir "$room/work" && cd "$room/work" || exit 2
+mkdir "$room/here" && cd "$room/here" || exit 2
 
 text() { # SHEET COEFFICIENTS
     printf 'sheet: %s\nnumber: 7\nkind: polynomial\ninterval: [-1, 1]\ncoefficients: %s\n' "$1" "$2"
