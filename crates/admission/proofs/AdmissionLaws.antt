@@ -1,10 +1,5 @@
 -- When a test of admission refuses, when it passes, and what an admitted chain says of each test: by the test's two cases.
-use mathlib.Core.Path.{_≡_, refl, ap}
-use mathlib.Core.Bool.{Bool, true, false, cond}
-use Prim.Native.Nat.{ℕ, _<_, _≤_}
-use native.Mathlib.Omega.{arith}
-use lib.Dec.{ltb}
-use borrow.Author.Tests.{ltb-false, lt-ltb, le-ltb}
+use Rattle.whole.proofs.Basics.{_≡_, refl, ap, Bool, true, false, cond, ℕ, _≤_, _<_, arith, ltb, ltb-false, lt-ltb, le-ltb}
 use Rattle.word.specs.Words.{largest}
 use Rattle.admission.specs.Admission.{admissionNumber, ranged, apart}
 use Rattle.admission.specs.declared.Admission.{Admission}

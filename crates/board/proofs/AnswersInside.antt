@@ -1,12 +1,7 @@
 -- Demand 3: a formula in an accepted sheet answers every argument in its own interval, by its kind's rule, and refuses every other by 10.
 -- `HasFormula s bytes n` says that the sheet is accepted and has a formula numbered n (`found-exactly` of the reader's promises).
-use mathlib.Core.Path.{_≡_, refl, sym, ap, _∙_}
-use mathlib.Core.Logic.{_⊎_, inl, inr}
-use mathlib.Core.List.{List}
-use Prim.Native.Nat.{ℕ}
-use lib.IntN.{ℤ}
+use Rattle.whole.proofs.Basics.{_≡_, _∙_, refl, sym, ap, _⊎_, inl, inr, List, ℕ, ℤ, _≤ℤ_, _<ℤ_}
 use lib.Ieee.{Float}
-use lib.Signed.{_≤ℤ_, _<ℤ_}
 use Rattle.word.specs.Words.{Word, NotZero}
 use Rattle.word.specs.Lists.{All}
 use Rattle.formula.specs.declared.Formula.{Formula}

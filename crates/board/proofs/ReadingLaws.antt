@@ -1,7 +1,5 @@
 -- From the place that the reader answers to what the board answers.
-use mathlib.Core.Path.{_≡_, refl, sym, ap, subst}
-use mathlib.Core.List.{List}
-use Prim.Native.Nat.{ℕ}
+use Rattle.whole.proofs.Basics.{_≡_, refl, sym, ap, subst, List, ℕ}
 use Rattle.formula.specs.declared.Formula.{Formula}
 use Rattle.records.specs.declared.Refusal.{Refusal}
 use Rattle.sheet.specs.Reader.{formulaPlace, formulaAt, readAt, formulaRead}

@@ -1,6 +1,5 @@
 -- Promise: the paper's number and place are the same whichever way a refusal is shown.
-use mathlib.Core.Path.{_≡_, refl, ap}
-use Prim.Native.Nat.{ℕ}
+use Rattle.whole.proofs.Basics.{_≡_, refl, ap, ℕ}
 use Rattle.formula.specs.declared.Formula.{Formula}
 use Rattle.records.specs.declared.Refusal.{Refusal}
 use Rattle.sheet.specs.Reader.{foundNumber, foundPlace}

@@ -1,7 +1,5 @@
 -- Promise: each public function of the board asks nothing of its caller, and settles its result: two results that satisfy its contract are equal.
-use mathlib.Core.Path.{_≡_, sym, ap, _∙_}
-use Prim.Native.Nat.{ℕ}
-use denote.Ref.{now}
+use Rattle.whole.proofs.Basics.{_≡_, _∙_, sym, ap, ℕ, now}
 use Rattle.whole.proofs.Settled.{AsksNothing, Settled}
 use Rattle.formula.specs.declared.Formula.{Formula}
 use Rattle.door.proofs.Determined.{exactly-unique, ends-unique}

@@ -1,11 +1,6 @@
 -- Demand 3: an accepted sheet's polynomial, at an argument in its interval, answers within half of 1 + |x| + .. + |x|^(n-1) steps of the exact value,
 -- for n + 1 coefficients, said over whole numbers.
-use mathlib.Core.Path.{_≡_, sym, ap, _∙_, subst}
-use mathlib.Core.List.{List}
-use Prim.Native.Nat.{ℕ, suc, _*_, _^_, _≤_}
-use lib.IntN.{ℤ, pos, natAbs, _-ℤ_, _*ℤ_}
-use lib.ListN.{take}
-use lib.Signed.{_≤ℤ_}
+use Rattle.whole.proofs.Basics.{_≡_, _∙_, sym, ap, subst, List, ℕ, suc, _*_, _^_, _≤_, take, ℤ, pos, natAbs, _-ℤ_, _*ℤ_, _≤ℤ_}
 use Rattle.polynomial.specs.Distance.{exactSum, spreadSum}
 use Rattle.formula.proofs.Distance.{polynomialShape, polynomial-distance}
 use Rattle.formula.specs.declared.Shape.{Shape}

@@ -1,6 +1,5 @@
 -- From what the board shows as doubles to what C is given, case by case.
-use mathlib.Core.Path.{refl, ap}
-use Prim.Native.Nat.{ℕ}
+use Rattle.whole.proofs.Basics.{refl, ap, ℕ}
 use Rattle.formula.specs.declared.Formula.{Formula}
 use Rattle.records.specs.declared.Refusal.{Refusal}
 use Rattle.sheet.specs.declared.answers.Found.{Found}

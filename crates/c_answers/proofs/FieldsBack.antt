@@ -1,6 +1,5 @@
 -- Promise: the fields that C is given for a formula are, handed back, that formula; and a code that is no formula's names no formula.
-use mathlib.Core.Path.{_≡_}
-use Prim.Native.Nat.{ℕ}
+use Rattle.whole.proofs.Basics.{_≡_, ℕ}
 use Rattle.formula.specs.declared.Kind.the-variants.{NoFormula}
 use Rattle.formula.specs.declared.Formula.{Formula}
 use Rattle.table.specs.declared.Class.the-variants.{FormulaRecord}

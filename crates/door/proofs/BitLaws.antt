@@ -1,14 +1,10 @@
 -- A double is read back from its bit pattern by the three fields, as the code takes them with shifts and masks: a shift divides, and a mask leaves the remainder.
-use mathlib.Core.Path.{_≡_, refl, sym, ap, ap₂, _∙_}
-use mathlib.Core.Bool.{Bool, true, false}
-use Prim.Native.Nat.{ℕ, _+_, _/_, _%_, _^_, _≤_, _<_}
-use native.Mathlib.Omega.{arith}
+use Rattle.whole.proofs.Basics.{_≡_, _∙_, refl, sym, ap, ap₂, Bool, true, false, ℕ, _+_, _/_, _%_, _^_, _≤_, _<_, arith, T, eqb, leb, eq-eqb, ne-eqb}
 use lib.Bits.{bitAnd, bitOr, and-mask, mask-lt, or-shifted-r}
-use lib.Dec.{T, eqb, leb}
 use lib.Pow.{field}
 use lib.Ieee.{Float, binary64, hid, ofFields, ofBits, toBits, fits}
 use lib.Ieee.Bits.{ofBits-toBits, toBits-lt}
-use borrow.Author.Tests.{eq-eqb, ne-eqb, leb-true, leb-false}
+use borrow.Author.Tests.{leb-true, leb-false}
 
 -- `b >> 63 == 1`, `(b >> 52) & 0x7ff` and `b & 0xf_ffff_ffff_ffff`, for a double's bit pattern b
 abbrev pub signBit : ℕ → Bool

@@ -1,11 +1,7 @@
 -- Theorems: two results that meet the same contract are equal, for `shown` and for `ends`. (The contract of `taken` is an equation.)
 -- A finite double's bits depend on its sign and value alone, and the bits give the double back.
-use mathlib.Core.Path.{_≡_, refl, sym, ap, ap₂, _∙_}
-use mathlib.Core.Bool.{Bool, cond}
-use Prim.Native.Nat.{ℕ, _+_, _-_, _*_, _/_, _^_, _<_}
+use Rattle.whole.proofs.Basics.{_≡_, _∙_, refl, sym, ap, ap₂, Bool, cond, ℕ, _+_, _-_, _*_, _/_, _^_, _<_, T, ℤ, natAbs}
 use native.Mathlib.Nat.{mul-right-comm, eq-of-mul-eq-mul-right}
-use lib.IntN.{ℤ, natAbs}
-use lib.Dec.{T}
 use lib.Pow.{pow-pos}
 use lib.Ieee.{Float, fin, Format, binary64, prec, low, up, down, size, hid, top, fits, toBits, ofBits}
 use lib.Ieee.Fits.{down-pos}

@@ -1,11 +1,6 @@
 -- A word as a double, divided by 2^s as a double, is exact: each of the two is exact, and so is the rounding of w / 2^s.
-use mathlib.Core.Path.{_≡_, refl, sym, ap, _∙_, subst}
-use mathlib.Core.Bool.{Bool, true, false, cond}
-use Prim.Native.Nat.{ℕ, zero, suc, _+_, _-_, _*_, _^_, _≤_, _<_}
+use Rattle.whole.proofs.Basics.{_≡_, _∙_, refl, sym, ap, subst, Bool, true, false, cond, ℕ, suc, zero, _+_, _-_, _*_, _^_, _≤_, _<_, arith, eqb, ℤ, pos, negsuc, natAbs, ne-eqb}
 use native.Mathlib.Nat.{le-of-lt, lt-of-lt-of-le, mul-assoc, mul-pos}
-use native.Mathlib.Omega.{arith}
-use lib.IntN.{ℤ, pos, negsuc, natAbs}
-use lib.Dec.{eqb}
 use lib.Pow.{pow-add, pow-pos, pow-mono, shl-lt}
 use lib.Ieee.{Float, nan, inf, fin, Format, binary64, prec, emax, low, up, down, unlike, round, div, ofInt}
 use lib.Ieee.Digits.{back}
@@ -13,7 +8,6 @@ use lib.Ieee.Fits.{up-pos, down-pos, reach, div-fits}
 use lib.Ieee.Exact.{HasValue, round-exact}
 use lib.Ieee.Back.{round-whole}
 use lib.Ieee.Scale.{round-same}
-use borrow.Author.Tests.{ne-eqb}
 use Rattle.word.specs.Words.{unit, belowZero}
 use Rattle.door.specs.Exact.{Exactly}
 

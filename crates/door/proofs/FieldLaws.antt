@@ -1,16 +1,10 @@
 -- The word taken from a double, by its three fields: the sign t, the exponent field F and the fraction d, over the places s, up to 28.
 -- F + s says how many of the 53 digits are cut off: none, some, or all.
-use mathlib.Core.Path.{_≡_, sym, ap, _∙_, subst}
-use mathlib.Core.Bool.{Bool, true, false, cond}
-use Prim.Native.Nat.{ℕ, zero, suc, _+_, _-_, _*_, _^_, _≤_, _<_}
+use Rattle.whole.proofs.Basics.{_≡_, _∙_, sym, ap, subst, Bool, true, false, cond, ℕ, suc, zero, _+_, _-_, _*_, _^_, _≤_, _<_, arith, eqb, pos, natAbs, eq-eqb, ne-eqb}
 use native.Mathlib.Nat.{mul-assoc, mul-le-mul, pow-succ'}
-use native.Mathlib.Omega.{arith}
-use lib.Dec.{eqb}
-use lib.IntN.{pos, natAbs}
 use lib.Pow.{pow-add, pow-pos, pow-mono, shl-lt}
 use lib.Ieee.{nan, inf, Format, binary64, prec, low, hid, ones, odd, ofFields}
 use lib.Ieee.Exact.{HasValue, odd-sign}
-use borrow.Author.Tests.{eq-eqb, ne-eqb}
 use Rattle.word.specs.Rounded.{rounded}
 use Rattle.word.specs.Words.{largest, unit, withSign}
 use Rattle.word.proofs.RoundedLaws.{rounded-same}

@@ -1,10 +1,6 @@
 -- The laws of `takenOf`: it sees only a double's sign and value, and which sizes give 0 or no word. Both come from laws of rounding.
-use mathlib.Core.Path.{_≡_, refl, sym, ap, _∙_}
-use mathlib.Core.Bool.{Bool, cond}
-use Prim.Native.Nat.{ℕ, _+_, _*_, _≤_, _<_}
+use Rattle.whole.proofs.Basics.{_≡_, _∙_, refl, sym, ap, Bool, cond, ℕ, _+_, _*_, _≤_, _<_, arith, ℤ, pos, natAbs}
 use native.Mathlib.Nat.{mul-right-comm, lt-of-mul-lt-mul-right}
-use native.Mathlib.Omega.{arith}
-use lib.IntN.{ℤ, pos, natAbs}
 use lib.Ieee.{Float, nan, inf, fin, up, down}
 use lib.Ieee.Fits.{down-pos}
 use lib.Ieee.Exact.{HasValue}

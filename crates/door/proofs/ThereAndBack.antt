@@ -1,7 +1,5 @@
 -- Theorem: a word shown as a double and taken again is itself: the double's value is w / 2^s, and rounding is exact where it divides.
-use mathlib.Core.Path.{_≡_, sym, ap, _∙_}
-use Prim.Native.Nat.{ℕ}
-use lib.IntN.{ℤ, pos, natAbs}
+use Rattle.whole.proofs.Basics.{_≡_, _∙_, sym, ap, ℕ, ℤ, pos, natAbs}
 use lib.Pow.{pow-pos}
 use lib.Ieee.{Float}
 use Rattle.word.specs.Rounded.{rounded}

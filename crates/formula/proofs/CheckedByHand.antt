@@ -1,5 +1,5 @@
 -- Every row of the table gives what the paper says.
-use mathlib.Core.Path.{_≡_, refl}
+use Rattle.whole.proofs.Basics.{_≡_, refl}
 use mathlib.Core.List.{map}
 use Rattle.word.specs.Rounded.{rounded, roundedUp}
 use Rattle.word.specs.Root.{rootIn}

@@ -1,8 +1,5 @@
 -- Demand 3, the distance, for a sound polynomial of n + 1 coefficients: twice the answer's distance from the exact value, both times 2^(s·n), is at most the sum of |x|^j·2^(s(n-j)) over j below n.
-use mathlib.Core.List.{List}
-use Prim.Native.Nat.{ℕ, suc, _*_, _^_, _≤_}
-use lib.IntN.{ℤ, pos, natAbs, _-ℤ_, _*ℤ_}
-use lib.ListN.{take}
+use Rattle.whole.proofs.Basics.{List, ℕ, suc, _*_, _^_, _≤_, take, ℤ, pos, natAbs, _-ℤ_, _*ℤ_}
 use lib.Seq.{length-take-le}
 use Rattle.polynomial.specs.Distance.{exactSum, spreadSum}
 use Rattle.polynomial.proofs.Distance.{distance-written-out}

@@ -1,12 +1,5 @@
 -- An argument in lo..hi is no larger than the larger of |lo| and |hi|, and that is a word's size.
-use mathlib.Core.Path.{_≡_, refl, sym, ap}
-use mathlib.Core.Bool.{Bool, true, false, cond}
-use Prim.Native.Nat.{ℕ, _<_, _≤_}
-use native.Mathlib.Omega.{arith}
-use lib.Dec.{ltb}
-use lib.IntN.{ℤ, natAbs}
-use lib.Signed.{_≤ℤ_}
-use borrow.Author.Tests.{ltb-true, ltb-false, lt-ltb, le-ltb}
+use Rattle.whole.proofs.Basics.{_≡_, refl, sym, ap, Bool, true, false, cond, ℕ, _≤_, _<_, arith, ltb, ℤ, natAbs, _≤ℤ_, ltb-true, ltb-false, lt-ltb, le-ltb}
 use Rattle.whole.proofs.Diff.{v, abs-is, size, parts-le-out}
 use Rattle.word.specs.Words.{Word}
 use Rattle.formula.specs.Formula.{mostOf}

@@ -1,9 +1,6 @@
 -- What each kind's own admission has found, over numbers in bytes that may be no words: it admits words alone, since a bound within
 -- range shows that all are words; and of words it says what admission says.
-use mathlib.Core.Path.{sym, ap, ap₂, _∙_, subst}
-use mathlib.Core.List.{List}
-use Prim.Native.Nat.{ℕ, _+_, _*_}
-use lib.ListN.{take}
+use Rattle.whole.proofs.Basics.{_∙_, sym, ap, ap₂, subst, List, ℕ, _+_, _*_, take}
 use Rattle.stored.specs.Words.{words}
 use Rattle.stored.proofs.WordsLaws.{words-all, words-both, words-take, words-drop}
 use Rattle.admission.specs.Admission.{Judged}

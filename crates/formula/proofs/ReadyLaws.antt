@@ -1,10 +1,5 @@
 -- An answerable argument is what its kind's own function asks for.
-use mathlib.Core.Path.{_≡_, subst}
-use mathlib.Core.List.{List}
-use Prim.Native.Nat.{ℕ}
-use native.Mathlib.Omega.{arith}
-use lib.IntN.{ℤ}
-use lib.ListN.{take, drop}
+use Rattle.whole.proofs.Basics.{_≡_, subst, List, ℕ, arith, take, drop, ℤ}
 use lib.Seq.{length-take-le}
 use Rattle.whole.proofs.Order.{≤ℤ-trans}
 use Rattle.word.specs.Words.{Rootable}

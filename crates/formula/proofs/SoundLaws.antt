@@ -1,10 +1,6 @@
 -- What a sound formula says at the kind that it has, and where a rational's words stand.
-use mathlib.Core.Path.{_≡_, subst}
-use mathlib.Core.List.{List}
-use Prim.Native.Nat.{ℕ, _+_, _-_, _≤_}
-use native.Mathlib.Omega.{arith}
-use lib.IntN.{ℤ}
-use lib.ListN.{length, take, drop, length-drop}
+use Rattle.whole.proofs.Basics.{_≡_, subst, List, ℕ, _+_, _-_, _≤_, arith, length, take, drop, ℤ}
+use lib.ListN.{length-drop}
 use lib.Seq.{length-take-le}
 use Rattle.formula.specs.Formula.{Counted, wordCount, Sound}
 use Rattle.formula.specs.declared.Kind.{Kind}

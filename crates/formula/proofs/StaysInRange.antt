@@ -1,11 +1,5 @@
 -- Demand 3, the range: of a sound, admitted formula, at every argument of its interval, each number on the way is a word and no divisor is 0.
-use mathlib.Core.Path.{_≡_}
-use mathlib.Core.List.{List}
-use Prim.Native.Nat.{ℕ, _≤_}
-use native.Mathlib.Omega.{arith}
-use lib.IntN.{ℤ, natAbs}
-use lib.Signed.{_≤ℤ_}
-use lib.ListN.{length, take, drop}
+use Rattle.whole.proofs.Basics.{_≡_, List, ℕ, _≤_, arith, length, take, drop, ℤ, natAbs, _≤ℤ_}
 use Rattle.whole.proofs.Order.{≤ℤ-trans}
 use Rattle.word.specs.Words.{Word, NotZero, Scale}
 use Rattle.word.proofs.RootLaws.{root-word}

@@ -1,15 +1,8 @@
 -- Admission of a fraction, step by step, as the code meets it.
-use mathlib.Core.Path.{_≡_, refl, sym, ap, ap₂, _∙_, subst}
-use mathlib.Core.Bool.{Bool, true, false, cond}
-use mathlib.Core.List.{List}
-use Prim.Native.Nat.{ℕ, zero, suc, _+_, _*_, _-_, _<_, _≤_}
+use Rattle.whole.proofs.Basics.{_≡_, _∙_, refl, sym, ap, ap₂, subst, Bool, true, false, cond, List, ℕ, suc, zero, _+_, _-_, _*_, _≤_, _<_, arith, eqb, ltb, length, getD, ℤ, pos, natAbs, eqb-true, eqb-false, ltb-false, lt-ltb, le-ltb}
 use native.Mathlib.Nat.{mul-le-mul, mul-le-mul-left}
-use native.Mathlib.Omega.{arith}
-use lib.Dec.{ltb, eqb}
-use lib.IntN.{ℤ, pos, natAbs}
-use lib.ListN.{length, getD, List·getD-eq-default}
+use lib.ListN.{List·getD-eq-default}
 use lib.Pow.{pow-mono}
-use borrow.Author.Tests.{lt-ltb, le-ltb, ltb-false, eqb-true, eqb-false}
 use Rattle.word.specs.Words.{Word, Scale, unit, boundProduct, boundQuotient}
 use Rattle.word.proofs.RoundedLaws.{up-least}
 use Rattle.admission.specs.Admission.{ranged}

@@ -1,9 +1,5 @@
 -- The walk outward gives the printed form b0 + a1·v1/(b1 + a2·v2/(b2 + ..)), each quotient and product rounded.
-use mathlib.Core.Path.{_≡_, ap, _∙_}
-use mathlib.Core.List.{List}
-use Prim.Native.Nat.{ℕ, zero, suc, _+_}
-use native.Mathlib.Omega.{arith}
-use lib.IntN.{ℤ}
+use Rattle.whole.proofs.Basics.{_≡_, _∙_, ap, List, ℕ, suc, zero, _+_, arith, ℤ}
 use Rattle.fraction.specs.Fraction.{bAt, aAfter, at, nextOf, outward}
 
 -- b_i + a_(i+1)·v_(i+1)/(b_(i+1) + ..), with d terms below b_i

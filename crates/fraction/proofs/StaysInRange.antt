@@ -1,9 +1,5 @@
 -- Demand 3 for continued fractions: of an admitted one, at every argument of the interval, each number on the way is a word and no divisor is 0.
-use mathlib.Core.Path.{_≡_}
-use mathlib.Core.List.{List}
-use Prim.Native.Nat.{ℕ, zero, suc, _+_, _-_, _≤_}
-use native.Mathlib.Omega.{arith}
-use lib.IntN.{ℤ, natAbs}
+use Rattle.whole.proofs.Basics.{_≡_, List, ℕ, suc, zero, _+_, _-_, _≤_, arith, ℤ, natAbs}
 use Rattle.whole.proofs.Order.{abs-add, abs-least}
 use Rattle.word.specs.Words.{Word, NotZero, productOf, quotientOf, boundProduct}
 use Rattle.word.proofs.WordLaws.{product-within, quotient-within}

@@ -1,9 +1,5 @@
 -- The walk outward, step by step, as the code meets it.
-use mathlib.Core.Path.{_≡_, refl, sym, ap, ap₂, _∙_, subst}
-use mathlib.Core.List.{List}
-use Prim.Native.Nat.{ℕ, zero, suc, _+_, _*_, _<_, _≤_}
-use native.Mathlib.Omega.{arith}
-use lib.IntN.{ℤ, natAbs}
+use Rattle.whole.proofs.Basics.{_≡_, _∙_, refl, sym, ap, ap₂, subst, List, ℕ, suc, zero, _+_, _*_, _≤_, _<_, arith, ℤ, natAbs}
 use Rattle.word.specs.Words.{Word}
 use Rattle.stored.specs.Numbers.{word4}
 use Rattle.stored.specs.Words.{words}

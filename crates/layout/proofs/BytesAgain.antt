@@ -1,18 +1,9 @@
 -- A record's bytes are written again from the numbers that are read from them.
-use mathlib.Core.Path.{_≡_, _∙_, refl, sym, ap, ap₂, subst}
-use mathlib.Core.List.{List, [], _∷_, _++_}
-use mathlib.Core.Logic.{inl, inr}
-use mathlib.Core.Bool.{Bool, true, false, cond}
-use Prim.Native.Nat.{ℕ, zero, suc, _+_, _*_, _≤_, _<_}
+use Rattle.whole.proofs.Basics.{_≡_, _∙_, refl, sym, ap, ap₂, subst, Bool, true, false, cond, inl, inr, List, [], _∷_, _++_, ℕ, suc, zero, _+_, _*_, _≤_, _<_, arith, eqb, length, take, drop, w32, eqb-false}
 use native.Mathlib.Numerals.{add-one}
-use native.Mathlib.Omega.{arith}
-use lib.Dec.{eqb}
-use lib.ListN.{length, take, drop}
 use lib.Seq.{drop-cons, drop-drop, take-add, getD-append-add}
-use mir.Syntax.{w32}
 use mir.Val.{Fits}
 use mir.Facts.{ofZ-toZ}
-use borrow.Author.Tests.{eqb-false}
 use Rattle.stored.specs.Numbers.{number2, number4, word4, bytes2, bytes4, pattern, Bytes}
 use Rattle.stored.specs.Words.{words}
 use Rattle.stored.proofs.StoreLaws.{two, four}

@@ -1,10 +1,6 @@
 -- A record of a formula's row, of the length that its counts ask for, is long enough for all its fields, and its words are as many as
 -- its kind and counts ask for: they end where the record does, and an array of 32 holds them.
-use mathlib.Core.List.{List}
-use mathlib.Core.Path.{_≡_}
-use Prim.Native.Nat.{ℕ, _+_, _-_, _*_, _/_, _≤_}
-use native.Mathlib.Omega.{arith}
-use lib.ListN.{length}
+use Rattle.whole.proofs.Basics.{_≡_, List, ℕ, _+_, _-_, _*_, _/_, _≤_, arith, length}
 use Rattle.formula.specs.Formula.{wordCount, Stored}
 use Rattle.table.specs.Table.{piecesBy}
 use Rattle.table.specs.Rule.{Ruled}

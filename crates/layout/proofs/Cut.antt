@@ -1,9 +1,6 @@
 -- A record cut out of a sheet: how long it is, and the part of the slice that the code takes.
-use mathlib.Core.Path.{_≡_}
-use mathlib.Core.List.{List}
-use Prim.Native.Nat.{ℕ, _-_, _+_}
-use native.Mathlib.Omega.{arith}
-use lib.ListN.{length, take, drop, length-take, length-drop}
+use Rattle.whole.proofs.Basics.{_≡_, List, ℕ, _+_, _-_, arith, length, take, drop}
+use lib.ListN.{length-take, length-drop}
 use Rattle.stored.specs.Numbers.{number4}
 use Rattle.layout.specs.Fields.{bytesAt, Reaches}
 

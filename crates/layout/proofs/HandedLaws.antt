@@ -1,11 +1,6 @@
 -- A formula that code hands over, without the fields that its kind has not, is ready for its record if its counts are in their ranges,
 -- and can then be told from the record's bytes.
-use mathlib.Core.Path.{_≡_, _∙_, sym, ap}
-use mathlib.Core.Bool.{Bool, true, false, cond}
-use Prim.Native.Nat.{ℕ, _<_, _≤_}
-use native.Mathlib.Omega.{arith}
-use lib.Dec.{eqb}
-use borrow.Author.Tests.{eq-eqb}
+use Rattle.whole.proofs.Basics.{_≡_, _∙_, sym, ap, Bool, true, false, cond, ℕ, _≤_, _<_, arith, eqb, eq-eqb}
 use Rattle.formula.specs.declared.Kind.{Kind}
 use Rattle.formula.specs.declared.Formula.{Formula}
 use Rattle.formula.specs.Formula.{wordCount}

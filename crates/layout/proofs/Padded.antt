@@ -1,13 +1,7 @@
 -- Runs of words, and the array that holds one.
-use mathlib.Core.Path.{_≡_, refl, sym, subst}
-use mathlib.Core.List.{List, [], _∷_, _++_, append-assoc}
-use Prim.Native.Nat.{ℕ, zero, suc, _+_, _-_, _*_, _<_, _≤_}
-use native.Mathlib.Omega.{arith}
-use lib.ListN.{length, getD, take, set, replicate, length-append, length-replicate}
+use Rattle.whole.proofs.Basics.{_≡_, refl, sym, subst, List, [], _∷_, _++_, append-assoc, ℕ, suc, zero, _+_, _-_, _*_, _≤_, _<_, arith, length, take, getD, length-append, ℤ, pos, w32, SFits}
+use lib.ListN.{set, replicate, length-replicate}
 use lib.Seq.{set-append-seam, take-append-seam}
-use lib.IntN.{ℤ, pos}
-use mir.Syntax.{w32}
-use mir.Val.{SFits}
 use Rattle.stored.specs.Numbers.{word4}
 use Rattle.stored.specs.Words.{words}
 use Rattle.stored.proofs.WordsLaws.{length-words, words-snoc}

@@ -1,7 +1,5 @@
 -- The words that a formula keeps without the fields that its kind has not are its own.
-use mathlib.Core.Path.{_≡_, subst}
-use Prim.Native.Nat.{ℕ, _≤_}
-use lib.ListN.{length, take}
+use Rattle.whole.proofs.Basics.{_≡_, subst, ℕ, _≤_, length, take}
 use lib.Seq.{length-take-le}
 use Rattle.formula.specs.declared.Formula.{Formula}
 use Rattle.formula.specs.Formula.{wordCount}

@@ -1,9 +1,5 @@
 -- A formula's record is put into a buffer in three parts, by the plain shape and the formula's own words.
-use mathlib.Core.Path.{_≡_, _∙_, sym, ap}
-use mathlib.Core.List.{List, _++_}
-use Prim.Native.Nat.{ℕ, _+_, _*_, _≤_}
-use native.Mathlib.Omega.{arith}
-use lib.ListN.{length, take, length-append}
+use Rattle.whole.proofs.Basics.{_≡_, _∙_, sym, ap, List, _++_, ℕ, _+_, _*_, _≤_, arith, length, take, length-append}
 use lib.Seq.{sets}
 use Rattle.stored.proofs.StoreLaws.{next}
 use Rattle.formula.specs.declared.Shape.{Shape}

@@ -1,17 +1,6 @@
 -- A formula is read again from its record's bytes: each part of them is read where it was put.
-use mathlib.Core.Path.{_≡_, _∙_, refl, sym, ap, ap₂, subst}
-use mathlib.Core.List.{List, [], _∷_, _++_, append-assoc, append-nil}
-use mathlib.Core.Logic.{inl, inr}
-use mathlib.Core.Bool.{Bool, true, false, cond}
-use Prim.Native.Nat.{ℕ, suc, _+_, _-_, _*_, _/_, _<_}
-use native.Mathlib.Omega.{arith}
-use lib.Dec.{eqb}
-use lib.ListN.{length, getD, length-append}
+use Rattle.whole.proofs.Basics.{_≡_, _∙_, refl, sym, ap, ap₂, subst, Bool, true, false, cond, inl, inr, List, [], _∷_, _++_, append-assoc, append-nil, ℕ, suc, _+_, _-_, _*_, _/_, _<_, arith, eqb, length, getD, length-append, ℤ, pos, w32, SFits, eqb-true, eqb-false, ne-eqb}
 use lib.Seq.{length-take-le}
-use lib.IntN.{ℤ, pos}
-use mir.Syntax.{w32}
-use mir.Val.{SFits}
-use borrow.Author.Tests.{ne-eqb, eqb-true, eqb-false}
 use Rattle.stored.specs.Numbers.{number2, number4, word4, bytes2, bytes4, pattern}
 use Rattle.stored.specs.Words.{words}
 use Rattle.stored.proofs.NumberLaws.{number2-at, number4-at, word4-at}

@@ -1,16 +1,7 @@
 -- The bytes of a record: their lengths, and where each part of them stands.
-use mathlib.Core.Path.{_≡_, _∙_, refl, sym, ap}
-use mathlib.Core.List.{List, [], _∷_, _++_, append-assoc, append-nil}
-use mathlib.Core.Logic.{inl, inr}
-use mathlib.Core.Bool.{Bool, true, false, cond}
-use Prim.Native.Nat.{ℕ, _+_, _*_, _<_}
+use Rattle.whole.proofs.Basics.{_≡_, _∙_, refl, sym, ap, Bool, true, false, cond, inl, inr, List, [], _∷_, _++_, append-assoc, append-nil, ℕ, _+_, _*_, _<_, arith, eqb, length, take, getD, length-append, ℤ, pos, eq-eqb}
 use native.Mathlib.Numerals.{add-one}
-use native.Mathlib.Omega.{arith}
-use lib.Dec.{eqb}
-use lib.ListN.{length, getD, take, length-append}
 use lib.Seq.{sets, take-suc, length-take-le}
-use lib.IntN.{ℤ, pos}
-use borrow.Author.Tests.{eq-eqb}
 use Rattle.stored.specs.Numbers.{bytes2, bytes4, pattern}
 use Rattle.stored.proofs.StoreLaws.{next, length-bytes2, length-bytes4}
 use Rattle.formula.specs.declared.Shape.{Shape}

@@ -1,8 +1,5 @@
 -- Promise: of a sheet of at most 8,192 bytes the listing is the count line and exactly the lines of its formulas, in order.
-use mathlib.Core.Path.{_≡_, _∙_, ap}
-use mathlib.Core.List.{List, _++_}
-use Prim.Native.Nat.{ℕ, _≤_}
-use lib.ListN.{length}
+use Rattle.whole.proofs.Basics.{_≡_, _∙_, ap, List, _++_, ℕ, _≤_, length}
 use Rattle.records.specs.Sheets.{SheetOf}
 use Rattle.sheet.specs.declared.answers.FormulaCount.the-variants.{Count}
 use Rattle.sheet.proofs.AcceptedShape.{shape-count}

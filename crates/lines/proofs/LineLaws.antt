@@ -1,11 +1,6 @@
 -- The formula records of an accepted sheet stand one behind the other, and their lines are those of the records: by induction on the
 -- records, each found in the middle of the bytes around it.
-use mathlib.Core.Path.{_≡_, _∙_, refl, sym, ap, ap₂, subst}
-use mathlib.Core.List.{List, [], _∷_, _++_, append-assoc}
-use Prim.Native.Nat.{ℕ, zero, suc, _+_, _-_, _<_, _≤_}
-use native.Mathlib.Omega.{arith}
-use lib.ListN.{length, length-append}
-use borrow.Author.Tests.{lt-ltb, le-ltb}
+use Rattle.whole.proofs.Basics.{_≡_, _∙_, refl, sym, ap, ap₂, subst, List, [], _∷_, _++_, append-assoc, ℕ, suc, zero, _+_, _-_, _≤_, _<_, arith, length, length-append, lt-ltb, le-ltb}
 use Rattle.word.specs.Words.{Scale}
 use Rattle.stored.specs.Numbers.{number4}
 use Rattle.stored.proofs.NumberLaws.{number4-more}

@@ -1,10 +1,6 @@
 -- Promise: the listing asks nothing of its caller, and settles its result and the buffer: two results, and two later contents, that satisfy its contract are equal.
-use mathlib.Core.Path.{_≡_, _∙_, sym, ap}
-use mathlib.Core.List.{_++_}
-use Prim.Native.Nat.{ℕ}
+use Rattle.whole.proofs.Basics.{_≡_, _∙_, sym, ap, _++_, ℕ, drop, now}
 use contract.Lifetimes.{Lfts}
-use lib.ListN.{drop}
-use denote.Ref.{now}
 use borrow.Fn.Kinds.{Dens, endedOf, resT}
 use denote.Triple.Clauses.{AtExit}
 use Rattle.whole.proofs.Settled.{AsksNothing, Settled}

@@ -1,15 +1,8 @@
 -- What `boundOf` says: where it is `Within b`, b is B_0 and every B is in range.
-use mathlib.Core.Path.{_≡_, refl, sym, ap, _∙_}
-use mathlib.Core.Bool.{Bool, true, false, cond}
-use mathlib.Core.List.{List, [], _∷_}
-use Prim.Native.Nat.{ℕ, zero, suc, _+_, _*_, _<_, _≤_}
+use Rattle.whole.proofs.Basics.{_≡_, _∙_, refl, sym, ap, Bool, true, false, cond, List, [], _∷_, ℕ, suc, zero, _+_, _*_, _≤_, _<_, arith, ltb, length, drop, getD, ℤ, pos, natAbs, ltb-false, lt-ltb, le-ltb}
 use native.Mathlib.Nat.{mul-le-mul-left}
-use native.Mathlib.Omega.{arith}
-use lib.Dec.{ltb}
-use lib.IntN.{ℤ, pos, natAbs}
-use lib.ListN.{length, drop, getD, drop-of-length-le}
+use lib.ListN.{drop-of-length-le}
 use lib.Seq.{drop-cons}
-use borrow.Author.Tests.{ltb-false, lt-ltb, le-ltb}
 use Rattle.word.specs.Words.{unit, boundProduct}
 use Rattle.word.proofs.RoundedLaws.{up-least}
 use Rattle.word.proofs.WordLaws.{unit-pos}

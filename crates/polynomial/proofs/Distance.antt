@@ -1,11 +1,6 @@
 -- Demand 3, the distance: a polynomial's answer lies within half of 1 + |x| + .. + |x|^(n-1) steps of the exact value, all times 2·2^(s·n).
-use mathlib.Core.Path.{_≡_, subst}
-use mathlib.Core.List.{List, [], _∷_}
-use Prim.Native.Nat.{ℕ, suc, _+_, _*_, _^_, _≤_}
+use Rattle.whole.proofs.Basics.{_≡_, subst, List, [], _∷_, ℕ, suc, _+_, _*_, _^_, _≤_, arith, length, ℤ, pos, natAbs, _+ℤ_, _-ℤ_, _*ℤ_}
 use native.Mathlib.Nat.{pow-suc, mul-le-mul-left, mul-le-mul-right}
-use native.Mathlib.Omega.{arith}
-use lib.IntN.{ℤ, pos, natAbs, _+ℤ_, _-ℤ_, _*ℤ_}
-use lib.ListN.{length}
 use Rattle.whole.proofs.Diff.{v, n, via, _⊕_, _⊗_, _⊝_, size}
 use Rattle.whole.proofs.Order.{abs-add, abs-mul}
 use Rattle.whole.proofs.Ring.{ring, var, _:+_, _:-_, _:*_}

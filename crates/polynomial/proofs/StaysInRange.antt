@@ -1,9 +1,5 @@
 -- Demand 3 for polynomials: of an admitted one, at every argument of the interval, each number on the way is a word.
-use mathlib.Core.Path.{_≡_}
-use mathlib.Core.List.{List, [], _∷_}
-use Prim.Native.Nat.{ℕ, suc, _≤_}
-use native.Mathlib.Omega.{arith}
-use lib.IntN.{ℤ, natAbs}
+use Rattle.whole.proofs.Basics.{_≡_, List, [], _∷_, ℕ, suc, _≤_, arith, ℤ, natAbs}
 use Rattle.word.specs.Words.{Word}
 use Rattle.word.specs.Lists.{All}
 use Rattle.admission.specs.declared.Admission.the-variants.{Admitted}

@@ -1,11 +1,7 @@
 -- `exact` and `spread` are the sums that they stand for.
-use mathlib.Core.Path.{_≡_, refl, sym, ap, ap₂, _∙_}
-use mathlib.Core.List.{List, [], _∷_}
-use Prim.Native.Nat.{ℕ, zero, suc, _+_, _*_, _-_, _^_}
+use Rattle.whole.proofs.Basics.{_≡_, _∙_, refl, sym, ap, ap₂, List, [], _∷_, ℕ, suc, zero, _+_, _-_, _*_, _^_, arith, length, getD, ℤ, pos, natAbs, _+ℤ_, _*ℤ_}
 use native.Mathlib.Nat.{pow-suc, pow-succ', pow-zero, mul-zero, mul-add, mul-suc, suc-sub-suc, sub-zero}
-use native.Mathlib.Omega.{arith}
-use lib.IntN.{ℤ, pos, natAbs, _+ℤ_, _*ℤ_, pow, one, *ℤ-zero}
-use lib.ListN.{length, getD}
+use lib.IntN.{pow, one, *ℤ-zero}
 use lib.Pow.{pow-add}
 use Rattle.whole.proofs.Diff.{v, n, _⊕_, _⊗_, same}
 use Rattle.word.specs.Words.{unit}

@@ -1,11 +1,8 @@
 -- The walk over the coefficients, and how large its numbers can be.
-use mathlib.Core.Path.{_≡_, ap, _∙_}
-use mathlib.Core.List.{List, [], _∷_}
-use Prim.Native.Nat.{ℕ, suc, _+_, _-_, _<_, _≤_}
+use Rattle.whole.proofs.Basics.{_≡_, _∙_, ap, List, [], _∷_, ℕ, suc, _+_, _-_, _≤_, _<_, arith, length, drop, getD, ℤ, pos, natAbs, _+ℤ_}
 use native.Mathlib.Nat.{le-refl}
-use native.Mathlib.Omega.{arith}
-use lib.IntN.{ℤ, pos, natAbs, _+ℤ_, +ℤ-idr}
-use lib.ListN.{length, drop, getD, drop-of-length-le}
+use lib.IntN.{+ℤ-idr}
+use lib.ListN.{drop-of-length-le}
 use lib.Seq.{drop-cons}
 use Rattle.whole.proofs.Order.{abs-add}
 use Rattle.word.specs.Words.{Word, productOf, boundProduct}

@@ -1,10 +1,5 @@
 -- Admission of a rational formula, step by step, as the code meets it.
-use mathlib.Core.Path.{_≡_, refl, sym, ap, ap₂, _∙_}
-use mathlib.Core.List.{List}
-use Prim.Native.Nat.{ℕ, _+_, _-_, _<_, _≤_}
-use native.Mathlib.Omega.{arith}
-use lib.IntN.{ℤ, pos, natAbs}
-use lib.ListN.{length, getD, drop}
+use Rattle.whole.proofs.Basics.{_≡_, _∙_, refl, sym, ap, ap₂, List, ℕ, _+_, _-_, _≤_, _<_, arith, length, drop, getD, ℤ, pos, natAbs}
 use native.Mathlib.Decide.{decLe}
 use Rattle.word.specs.Words.{boundProduct, boundQuotient}
 use Rattle.admission.specs.Admission.{ranged, apart}

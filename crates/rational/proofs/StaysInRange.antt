@@ -1,10 +1,5 @@
 -- Demand 3 for rational formulas: of an admitted one, at every argument of the interval, each number on the way is a word and the divisor is not 0.
-use mathlib.Core.Path.{_≡_, ap}
-use mathlib.Core.List.{List}
-use Prim.Native.Nat.{ℕ, _<_, _≤_}
-use native.Mathlib.Omega.{arith}
-use lib.IntN.{ℤ, pos, natAbs, _+ℤ_}
-use lib.ListN.{length, getD, drop}
+use Rattle.whole.proofs.Basics.{_≡_, ap, List, ℕ, _≤_, _<_, arith, length, drop, getD, ℤ, pos, natAbs, _+ℤ_}
 use Rattle.whole.proofs.Order.{abs-least}
 use Rattle.word.specs.Words.{Word, NotZero, productOf, boundQuotient}
 use Rattle.word.proofs.WordLaws.{quotient-within}

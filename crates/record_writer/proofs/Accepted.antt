@@ -1,9 +1,5 @@
 -- What it says that the record writer accepts a formula.
-use mathlib.Core.Path.{_≡_, refl}
-use mathlib.Core.Bool.{Bool, true, false, cond}
-use Prim.Native.Nat.{ℕ}
-use lib.Dec.{eqb}
-use borrow.Author.Tests.{eqb-true, eqb-false}
+use Rattle.whole.proofs.Basics.{_≡_, refl, Bool, true, false, cond, ℕ, eqb, eqb-true, eqb-false}
 use Rattle.word.specs.Words.{Scale}
 use Rattle.formula.specs.declared.Formula.{Formula}
 use Rattle.table.specs.declared.Class.the-variants.{FormulaRecord}

@@ -1,12 +1,7 @@
 -- Each element of an array of signed numbers that code holds fits its width, and past the end there is 0.
-use mathlib.Core.List.{List, [], _∷_, map, map-id}
-use mathlib.Core.Path.{subst}
-use Prim.Native.Nat.{ℕ, zero, suc}
-use native.Mathlib.Omega.{arith}
-use lib.IntN.{ℤ, pos}
-use lib.ListN.{getD}
-use mir.Syntax.{w32}
-use mir.Val.{Val, SFits}
+use Rattle.whole.proofs.Basics.{subst, List, [], _∷_, ℕ, suc, zero, arith, getD, ℤ, pos, w32, SFits}
+use mathlib.Core.List.{map, map-id}
+use mir.Val.{Val}
 use denote.Array.{each}
 use denote.Shadow.{shadow}
 use denote.Signed.{SInt}

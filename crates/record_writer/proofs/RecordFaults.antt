@@ -1,9 +1,5 @@
 -- A formula's faults are those of its record's bytes, because it is read again from them.
-use mathlib.Core.Path.{_≡_, _∙_, refl, sym, ap}
-use Prim.Native.Nat.{ℕ, _≤_}
-use native.Mathlib.Omega.{arith}
-use lib.ListN.{length}
-use borrow.Author.Tests.{eq-eqb, le-ltb}
+use Rattle.whole.proofs.Basics.{_≡_, _∙_, refl, sym, ap, ℕ, _≤_, arith, length, eq-eqb, le-ltb}
 use Rattle.formula.specs.declared.Formula.{Formula}
 use Rattle.table.specs.declared.Row.{Row}
 use Rattle.table.proofs.Rule.{short}

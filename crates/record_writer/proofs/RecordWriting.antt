@@ -1,11 +1,5 @@
 -- The record writer's answers, a link at a time.
-use mathlib.Core.Path.{_≡_, _∙_, refl, sym, ap, ap₂}
-use mathlib.Core.Bool.{Bool, true, false, cond}
-use mathlib.Core.List.{List}
-use Prim.Native.Nat.{ℕ, _≤_}
-use native.Mathlib.Omega.{arith}
-use lib.Dec.{ltb, eqb}
-use lib.ListN.{length, take}
+use Rattle.whole.proofs.Basics.{_≡_, _∙_, refl, sym, ap, ap₂, Bool, true, false, cond, List, ℕ, _≤_, arith, eqb, ltb, length, take}
 use lib.Seq.{sets, take-append-seam}
 use Rattle.stored.proofs.StoreLaws.{sets-front}
 use Rattle.formula.specs.declared.Formula.{Formula}

@@ -1,9 +1,6 @@
 -- Promise: the record writer asks nothing of its caller, and settles its result and its buffer: two results, and two later contents of
 -- the buffer, that satisfy its contract are equal.
-use mathlib.Core.Path.{sym, ap, _∙_}
-use mathlib.Core.List.{List}
-use Prim.Native.Nat.{ℕ}
-use denote.Ref.{now}
+use Rattle.whole.proofs.Basics.{_∙_, sym, ap, List, ℕ, now}
 use Rattle.whole.proofs.Settled.{AsksNothing, SettledBy, Settled}
 use Rattle.record_writer.specs.Answers.{bufferAfter}
 use Rattle.record_writer.specs.RecordWriter.{bytesOf}

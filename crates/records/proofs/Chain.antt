@@ -1,9 +1,5 @@
 -- A chain of faults, a link at a time.
-use mathlib.Core.Path.{_≡_, refl}
-use mathlib.Core.Bool.{Bool, true, false, cond}
-use Prim.Native.Nat.{ℕ}
-use lib.Dec.{eqb}
-use borrow.Author.Tests.{eq-eqb, ne-eqb, eqb-true, eqb-false}
+use Rattle.whole.proofs.Basics.{_≡_, refl, Bool, true, false, cond, ℕ, eqb, eqb-true, eqb-false, eq-eqb, ne-eqb}
 use Rattle.records.specs.Guard.{guard, orElse}
 
 -- code that stops at a fault, and code that goes past none

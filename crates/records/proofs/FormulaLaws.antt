@@ -1,12 +1,5 @@
 -- The checks of a formula record, cut where the code cuts them: the front, then the words and admission; and which codes are formulas'.
-use mathlib.Core.Path.{_≡_, _∙_, refl, sym, ap, subst}
-use mathlib.Core.List.{List}
-use mathlib.Core.Bool.{Bool, true, false}
-use Prim.Native.Nat.{ℕ, _-_, _/_, _≤_}
-use native.Mathlib.Omega.{arith}
-use lib.Dec.{eqb}
-use lib.ListN.{length}
-use borrow.Author.Tests.{eqb-true, eqb-false}
+use Rattle.whole.proofs.Basics.{_≡_, _∙_, refl, sym, ap, subst, Bool, true, false, List, ℕ, _-_, _/_, _≤_, arith, eqb, length, eqb-true, eqb-false}
 use Rattle.stored.specs.Words.{words, Stretch}
 use Rattle.admission.specs.Admission.{admissionNumber, Judged}
 use Rattle.admission.specs.declared.Admission.{Admission}

@@ -1,11 +1,5 @@
 -- What it says that a record stands in its frame.
-use mathlib.Core.Path.{_≡_}
-use mathlib.Core.List.{List}
-use Prim.Native.Nat.{ℕ, _-_, _≤_}
-use native.Mathlib.Omega.{arith}
-use lib.Dec.{ltb}
-use lib.ListN.{length}
-use borrow.Author.Tests.{ltb-false}
+use Rattle.whole.proofs.Basics.{_≡_, List, ℕ, _-_, _≤_, arith, ltb, length, ltb-false}
 use Rattle.stored.specs.Numbers.{number4}
 use Rattle.layout.specs.Fields.{Reaches}
 use Rattle.records.specs.Faults.{frameFault}

@@ -1,9 +1,5 @@
 -- The binary places without a fault are those that a board may have.
-use mathlib.Core.Path.{_≡_, refl}
-use Prim.Native.Nat.{ℕ}
-use native.Mathlib.Omega.{arith}
-use lib.Dec.{ltb}
-use borrow.Author.Tests.{le-ltb, ltb-false}
+use Rattle.whole.proofs.Basics.{_≡_, refl, ℕ, arith, ltb, ltb-false, le-ltb}
 use Rattle.word.specs.Words.{Scale}
 use Rattle.records.specs.Faults.{scaleFault}
 use Rattle.records.proofs.Chain.{passed}

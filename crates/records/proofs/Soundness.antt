@@ -1,13 +1,6 @@
 -- A formula record without faults 2, 6, 7 and 8 is sound and admitted: what no fault says of each field.
-use mathlib.Core.Path.{_≡_, refl, sym, subst}
-use mathlib.Core.List.{List}
-use mathlib.Core.Bool.{Bool, false, not}
-use Prim.Native.Nat.{ℕ, _≤_}
-use native.Mathlib.Omega.{arith}
-use lib.Dec.{T}
-use lib.ListN.{length}
-use lib.IntN.{ℤ, pos}
-use lib.Signed.{ltZ, ltZ-no, _≤ℤ_}
+use Rattle.whole.proofs.Basics.{_≡_, refl, sym, subst, Bool, false, not, List, ℕ, _≤_, arith, T, length, ℤ, pos, _≤ℤ_, ltZ}
+use lib.Signed.{ltZ-no}
 use Rattle.stored.proofs.WordsLaws.{length-words}
 use Rattle.admission.specs.Admission.{admissionNumber}
 use Rattle.admission.specs.declared.Admission.{Admission}

@@ -1,18 +1,7 @@
 -- The stored values of a formula: tests of words, one by one, and what they say of a whole list.
-use mathlib.Core.Path.{_≡_, refl, sym, ap, subst, _∙_}
-use mathlib.Core.List.{List, [], _∷_}
-use mathlib.Core.Bool.{Bool, true, false, cond}
-use Prim.Native.Nat.{ℕ, zero, suc, _+_, _<_, _≤_}
+use Rattle.whole.proofs.Basics.{_≡_, _∙_, refl, sym, ap, subst, Bool, true, false, cond, List, [], _∷_, ℕ, suc, zero, _+_, _≤_, _<_, arith, T, eqb, ltb, length, drop, getD, ℤ, pos, negsuc, natAbs, ltZ, w32, SFits, eqb-true, ltb-true, ltb-false, lt-ltb, le-ltb}
 use native.Mathlib.Numerals.{add-one}
-use native.Mathlib.Omega.{arith}
-use lib.Dec.{T, ltb, eqb}
-use lib.ListN.{length, getD, drop}
 use lib.Seq.{drop-cons}
-use lib.IntN.{ℤ, pos, negsuc, natAbs}
-use lib.Signed.{ltZ}
-use mir.Syntax.{w32}
-use mir.Val.{SFits}
-use borrow.Author.Tests.{lt-ltb, le-ltb, ltb-true, ltb-false, eqb-true}
 use Rattle.word.specs.Words.{Word}
 use Rattle.word.specs.Lists.{Words}
 use Rattle.admission.specs.Admission.{admissionNumber, Judged}

@@ -1,11 +1,6 @@
 -- Promise: an accepted sheet is one start, exactly count formula records with strictly rising numbers, one end with the same
 -- count, and nothing more; and every such sheet is accepted, with that count.
-use mathlib.Core.Path.{_≡_, sym, ap, subst}
-use mathlib.Core.List.{List, [], append-nil}
-use Prim.Native.Nat.{ℕ, _+_}
-use native.Mathlib.Omega.{arith}
-use lib.ListN.{length}
-use borrow.Author.Tests.{le-ltb}
+use Rattle.whole.proofs.Basics.{_≡_, sym, ap, subst, List, [], append-nil, ℕ, _+_, arith, length, le-ltb}
 use Rattle.records.specs.Sheets.{SheetOf}
 use Rattle.walking.specs.Walking.{walkOf}
 use Rattle.walking.specs.declared.Walked.{Walked}

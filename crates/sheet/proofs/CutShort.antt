@@ -1,11 +1,6 @@
 -- Promise: every strict prefix of an accepted sheet is refused.
-use mathlib.Core.Path.{_≡_, ap}
-use mathlib.Core.List.{List, _++_}
-use mathlib.Core.Logic.{_⊎_, inl, inr}
-use Prim.Native.Nat.{ℕ, _+_, _<_}
-use native.Mathlib.Omega.{arith}
-use lib.ListN.{length, take, drop, length-drop, take-append-drop}
-use borrow.Author.Tests.{lt-ltb}
+use Rattle.whole.proofs.Basics.{_≡_, ap, _⊎_, inl, inr, List, _++_, ℕ, _+_, _<_, arith, length, take, drop, lt-ltb}
+use lib.ListN.{length-drop, take-append-drop}
 use Rattle.walking.specs.declared.Walked.{Walked}
 use Rattle.walking.proofs.ShapeToWalk.{walked}
 use Rattle.sheet.specs.Reader.{countNumber, countPlace, countAnswer, noNumber, formulaCount, Accepted, NotAccepted}

@@ -1,11 +1,6 @@
 -- Promise: each formula that the reader gives is sound and admitted and has the number asked for; a number is found exactly
 -- when a record of the sheet has it, and the formula is then that record's.
-use mathlib.Core.Path.{_≡_, _∙_, refl, ap, subst}
-use mathlib.Core.List.{List}
-use mathlib.Core.Logic.{_⊎_, inl, inr}
-use Prim.Native.Nat.{ℕ}
-use native.Mathlib.Omega.{arith}
-use lib.ListN.{length}
+use Rattle.whole.proofs.Basics.{_≡_, _∙_, refl, ap, subst, _⊎_, inl, inr, List, ℕ, arith, length}
 use Rattle.word.specs.Words.{Scale}
 use Rattle.layout.specs.Fields.{formulaNumber, formulaOf}
 use Rattle.records.specs.Guard.{refusal}

@@ -1,15 +1,7 @@
 -- Promise: any bytes are accepted, or refused by one of a sheet's refusals; a number asked for is refused by these, or by 11 at place 0.
 -- Each test of a record gives 0 or one of a record's refusals, and so do tests one behind the other: that is shown once, by small laws of `cond` and `orElse`.
-use mathlib.Core.Path.{_≡_, refl, ap, subst}
-use mathlib.Core.List.{List, [], _∷_}
-use mathlib.Core.Logic.{_⊎_, inl, inr}
-use mathlib.Core.Bool.{Bool, true, false, cond, not, _||_}
-use Prim.Native.Nat.{ℕ, zero, suc, _-_}
-use lib.Dec.{T, eqb, ltb}
-use lib.ListN.{length}
-use lib.IntN.{ℤ, pos, natAbs}
-use lib.Signed.{ltZ}
-use borrow.Author.Tests.{eq-eqb, eqb-true, eqb-false}
+use Rattle.whole.proofs.Basics.{_≡_, refl, ap, subst, Bool, true, false, cond, not, _⊎_, inl, inr, List, [], _∷_, ℕ, suc, zero, _-_, T, eqb, ltb, length, ℤ, pos, natAbs, ltZ, eqb-true, eqb-false, eq-eqb}
+use mathlib.Core.Bool.{_||_}
 use Rattle.stored.specs.Numbers.{number4}
 use Rattle.admission.specs.declared.Admission.{Admission}
 use Rattle.admission.specs.declared.Admission.the-variants.{Admitted, RangeLeft, DivisorZero}

@@ -1,14 +1,6 @@
 -- The place that the walk notes is that of a record with the number asked for, or 0 where there is none.
-use mathlib.Core.Path.{_≡_, _∙_, refl, sym, ap, subst}
-use mathlib.Core.List.{List, [], _∷_, _++_, append-nil, append-assoc}
-use mathlib.Core.Logic.{_⊎_, inl, inr}
-use mathlib.Core.Bool.{Bool, true, false, cond}
-use Prim.Native.Nat.{ℕ, zero, suc, _+_}
+use Rattle.whole.proofs.Basics.{_≡_, _∙_, refl, sym, ap, subst, Bool, true, false, cond, _⊎_, inl, inr, List, [], _∷_, _++_, append-assoc, append-nil, ℕ, suc, zero, _+_, arith, eqb, length, length-append, eqb-true, eqb-false, le-ltb}
 use native.Mathlib.Nat.{add-zero}
-use native.Mathlib.Omega.{arith}
-use lib.Dec.{eqb}
-use lib.ListN.{length, length-append}
-use borrow.Author.Tests.{eqb-true, eqb-false, le-ltb}
 use Rattle.table.specs.declared.Class.the-variants.{FormulaRecord}
 use Rattle.layout.specs.Fields.{bytesAt, formulaNumber}
 use Rattle.records.specs.Sheets.{FormulaBytes, EachFormula, inLine, Has, SheetOf}

@@ -1,12 +1,6 @@
 -- Promise: whatever number is asked for, a sheet that is refused is refused by the same number at the same place.
 -- No fault depends on the number that is asked for, so a walk that asks for nothing goes the same way.
-use mathlib.Core.Path.{_≡_, _∙_, refl, sym, ap}
-use mathlib.Core.List.{List}
-use mathlib.Core.Bool.{Bool, true, false, cond}
-use Prim.Native.Nat.{ℕ, zero, suc, _+_}
-use native.Mathlib.Omega.{arith}
-use lib.Dec.{eqb, ltb}
-use lib.ListN.{length}
+use Rattle.whole.proofs.Basics.{_≡_, _∙_, refl, sym, ap, Bool, true, false, cond, List, ℕ, suc, zero, _+_, arith, eqb, ltb, length}
 use Rattle.table.specs.declared.Class.{Class}
 use Rattle.table.specs.declared.Class.the-variants.{StartRecord, FormulaRecord, EndRecord, Unknown}
 use Rattle.table.specs.declared.Row.{Row}

@@ -1,5 +1,5 @@
 -- Promise: each public function of the reader asks nothing of its caller, and settles its result: two results that satisfy its contract are equal.
-use mathlib.Core.Path.{sym, _∙_}
+use Rattle.whole.proofs.Basics.{_∙_, sym}
 use Rattle.whole.proofs.Settled.{AsksNothing, Settled}
 use Rattle.sheet.proofs.reader.formula_count.Kinds as count-kinds
 use Rattle.sheet.proofs.reader.formula_count.Reads as count-reads

@@ -1,9 +1,5 @@
 -- A formula record without fault: it is complete, its formula has the words that stand in it, and is sound and admitted.
-use mathlib.Core.Path.{_≡_, sym, subst}
-use mathlib.Core.List.{List}
-use Prim.Native.Nat.{ℕ}
-use lib.IntN.{ℤ}
-use lib.ListN.{take}
+use Rattle.whole.proofs.Basics.{_≡_, sym, subst, List, ℕ, take, ℤ}
 use Rattle.stored.proofs.WordsLaws.{length-words}
 use Rattle.admission.specs.declared.Admission.the-variants.{Admitted}
 use Rattle.formula.specs.Formula.{wordCount, Sound, admissionOf}

@@ -1,14 +1,7 @@
 -- Promise: an accepted sheet with its bytes from any place on set to zero is refused, or is the same bytes.
-use mathlib.Core.Path.{_≡_, _∙_, refl, sym, ap}
-use mathlib.Core.List.{List, _++_, append-assoc}
-use mathlib.Core.Logic.{_⊎_, inl, inr}
-use mathlib.Core.Bool.{Bool, true, false}
-use Prim.Native.Nat.{ℕ, _+_, _-_, _≤_, _<_}
-use native.Mathlib.Omega.{arith}
-use lib.Dec.{ltb}
-use lib.ListN.{length, getD, take, replicate, length-append, length-replicate, getD-replicate, List·getD-append}
+use Rattle.whole.proofs.Basics.{_≡_, _∙_, refl, sym, ap, Bool, true, false, _⊎_, inl, inr, List, _++_, append-assoc, ℕ, _+_, _-_, _≤_, _<_, arith, ltb, length, take, getD, length-append, ltb-true, ltb-false}
+use lib.ListN.{replicate, length-replicate, getD-replicate, List·getD-append}
 use lib.Seq.{ext-getD, getD-take, length-take-le, getD-append-add}
-use borrow.Author.Tests.{ltb-true, ltb-false}
 use Rattle.stored.specs.Numbers.{number2}
 use Rattle.table.proofs.Rule.{end-length}
 use Rattle.layout.specs.Fields.{codeOf, rowFor, shapeOf}

@@ -1,15 +1,8 @@
 -- Promise: reading undoes writing. The reader accepts whatever the sheet writer has written, with as many formulas as the run has
 -- records; and of formulas that the record writer accepts, put into a sheet by the sheet writer, it gives each for its number,
 -- with the fields that its kind has not at 0.
-use mathlib.Core.Path.{_≡_, _∙_, refl, sym, ap, subst}
-use mathlib.Core.List.{List, [], _∷_, _++_, map, append-nil}
-use mathlib.Core.Logic.{_⊎_, inl, inr}
-use mathlib.Core.Bool.{Bool, true, false, cond}
-use Prim.Native.Nat.{ℕ, suc, _+_, _≤_}
-use native.Mathlib.Omega.{arith}
-use lib.Dec.{eqb}
-use lib.ListN.{length}
-use borrow.Author.Tests.{eqb-true, eqb-false}
+use Rattle.whole.proofs.Basics.{_≡_, _∙_, refl, sym, ap, subst, Bool, true, false, cond, _⊎_, inl, inr, List, [], _∷_, _++_, append-nil, ℕ, suc, _+_, _≤_, arith, eqb, length, eqb-true, eqb-false}
+use mathlib.Core.List.{map}
 use Rattle.word.specs.Words.{Scale}
 use Rattle.formula.specs.declared.Formula.{Formula}
 use Rattle.layout.specs.Fields.{bytesAt, rowFor, formulaNumber, formulaOf}

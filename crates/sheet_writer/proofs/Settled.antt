@@ -1,8 +1,7 @@
 -- Promise: the sheet writer asks nothing of its caller, and settles its result and its buffer: two results, and two later contents of
 -- the buffer, that satisfy its contract are equal.
-use mathlib.Core.Path.{_≡_, sym, ap, _∙_}
+use Rattle.whole.proofs.Basics.{_≡_, _∙_, sym, ap, now}
 use contract.Lifetimes.{Lfts}
-use denote.Ref.{now}
 use borrow.Fn.Kinds.{Dens, endedOf, resT}
 use denote.Triple.Clauses.{AtExit}
 use Rattle.whole.proofs.Settled.{AsksNothing, Settled}

@@ -1,9 +1,5 @@
 -- The bytes of a sheet as they are put into a buffer: how long its parts are.
-use mathlib.Core.Path.{_≡_, refl}
-use mathlib.Core.List.{List, _++_}
-use Prim.Native.Nat.{ℕ, _+_}
-use native.Mathlib.Omega.{arith}
-use lib.ListN.{length, length-append}
+use Rattle.whole.proofs.Basics.{_≡_, refl, List, _++_, ℕ, _+_, arith, length, length-append}
 use Rattle.stored.proofs.StoreLaws.{length-bytes2, length-bytes4}
 use Rattle.table.specs.Table.{rows, firstRow}
 use Rattle.table.specs.Codes.{startRow, endRow}

@@ -1,10 +1,5 @@
 -- A run of formula records between a start and an end of its count is a sheet, and is written as one.
-use mathlib.Core.Path.{_≡_, refl, ap}
-use mathlib.Core.List.{List, [], _∷_, _++_, append-nil}
-use Prim.Native.Nat.{ℕ, _+_, _≤_, _<_}
-use native.Mathlib.Omega.{arith}
-use lib.ListN.{length, length-append}
-use borrow.Author.Tests.{ne-eqb, le-ltb}
+use Rattle.whole.proofs.Basics.{_≡_, refl, ap, List, [], _∷_, _++_, append-nil, ℕ, _+_, _≤_, _<_, arith, length, length-append, ne-eqb, le-ltb}
 use Rattle.word.specs.Words.{Scale}
 use Rattle.stored.specs.Numbers.{number2, number4, bytes2, bytes4}
 use Rattle.table.specs.declared.Class.the-variants.{StartRecord, EndRecord}

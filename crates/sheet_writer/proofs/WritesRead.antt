@@ -1,16 +1,7 @@
 -- Promise: writing undoes reading. Over an accepted sheet's own run the sheet writer gives that sheet; the record writer over each
 -- formula that the reader gives returns that record's own bytes.
-use mathlib.Core.Path.{_≡_, _∙_, refl, sym, ap, ap₂, subst}
-use mathlib.Core.List.{List, [], _∷_, _++_}
-use mathlib.Core.Logic.{inl, inr}
-use mathlib.Core.Bool.{Bool, true, false, cond}
-use Prim.Native.Nat.{ℕ, _+_, _-_, _*_, _/_, _≤_}
-use native.Mathlib.Omega.{arith}
-use lib.Dec.{eqb, ltb}
-use lib.ListN.{length, take, drop, length-append}
+use Rattle.whole.proofs.Basics.{_≡_, _∙_, refl, sym, ap, ap₂, subst, Bool, true, false, cond, inl, inr, List, [], _∷_, _++_, ℕ, _+_, _-_, _*_, _/_, _≤_, arith, eqb, ltb, length, take, drop, length-append, ℤ, eqb-true, le-ltb}
 use lib.Seq.{take-all, take-at, drop-at}
-use lib.IntN.{ℤ}
-use borrow.Author.Tests.{le-ltb, eqb-true}
 use Rattle.word.specs.Words.{Scale}
 use Rattle.stored.specs.Numbers.{number2, number4, bytes2, bytes4, Bytes}
 use Rattle.formula.specs.declared.Formula.{Formula}

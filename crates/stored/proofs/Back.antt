@@ -1,15 +1,9 @@
 -- A signed number that code hands on is what the machine reads back from its bits.
-use mathlib.Core.Path.{_≡_, _∙_, refl, ap}
-use mathlib.Core.Bool.{true, false}
-use Prim.Native.Nat.{ℕ, _-_, _<_}
-use native.Mathlib.Omega.{arith}
-use lib.IntN.{ℤ, pos, negsuc, natAbs}
+use Rattle.whole.proofs.Basics.{_≡_, _∙_, refl, ap, true, false, ℕ, _-_, _<_, arith, T, ℤ, pos, negsuc, natAbs, w32, SFits, toZ, ofZ, toZ-ofZ}
 use lib.Signed.{leZ, nonNeg}
-use lib.Dec.{T, leb·zero}
-use mir.Syntax.{w32}
-use mir.Val.{Fits, SFits, toZ, ofZ}
+use lib.Dec.{leb·zero}
+use mir.Val.{Fits}
 use mir.ValLaws.{toZ-pos}
-use mir.Facts.{toZ-ofZ}
 
 pub back : {z y : ℤ} → SFits w32 z → z ≡ y → toZ w32 (ofZ w32 z) ≡ y
 back f e = toZ-ofZ f ∙ e

@@ -1,16 +1,10 @@
 -- Numbers in a part of a list, in a list that goes on, and where they were stored.
-use mathlib.Core.Path.{_≡_, _∙_, ap}
-use mathlib.Core.List.{List, _∷_, _++_}
-use Prim.Native.Nat.{ℕ, _+_, _*_, _/_, _%_, _≤_, _<_}
+use Rattle.whole.proofs.Basics.{_≡_, _∙_, ap, List, _∷_, _++_, ℕ, _+_, _*_, _/_, _%_, _≤_, _<_, arith, length, take, drop, getD, ℤ, w32, SFits, toZ, ofZ, toZ-ofZ}
 use native.Mathlib.Nat.{add-assoc, add-zero, div-div-eq-div-mul, mod-eq-of-lt, div-add-mod'}
-use native.Mathlib.Omega.{arith}
-use lib.ListN.{length, getD, take, drop, List·getD-append}
+use lib.ListN.{List·getD-append}
 use lib.Seq.{getD-take, getD-drop, getD-append-seam, getD-append-add}
-use lib.IntN.{ℤ}
-use mir.Syntax.{w32}
-use mir.Val.{Fits, SFits, toZ, ofZ}
+use mir.Val.{Fits}
 use mir.ValLaws.{ofZ-fits}
-use mir.Facts.{toZ-ofZ}
 use Rattle.stored.specs.Numbers.{number2, number4, word4, bytes2, bytes4, pattern}
 
 -- a byte of a part

@@ -1,11 +1,8 @@
 -- Runs of stores in a list, and the bytes of a number that stands in one.
-use mathlib.Core.Path.{_≡_, _∙_, refl, sym, ap}
-use mathlib.Core.List.{List, [], _∷_, _++_}
-use Prim.Native.Nat.{ℕ, suc, _+_, _/_, _%_, _<_, _≤_}
+use Rattle.whole.proofs.Basics.{_≡_, _∙_, refl, sym, ap, List, [], _∷_, _++_, ℕ, suc, _+_, _/_, _%_, _≤_, _<_, arith, length, take, drop, getD}
 use native.Mathlib.Nat.{add-zero, zero-add}
 use native.Mathlib.Numerals.{add-one}
-use native.Mathlib.Omega.{arith}
-use lib.ListN.{length, getD, take, drop, set}
+use lib.ListN.{set}
 use lib.Seq.{sets, sets-eq, take-suc, length-take-le}
 use Rattle.stored.specs.Numbers.{Bytes, number2, number4, bytes2, bytes4}
 

@@ -1,13 +1,6 @@
 -- The words of a stretch of bytes: how many there are, the one at a place, and its parts.
-use mathlib.Core.Path.{_≡_, refl, ap, ap₂, _∙_}
-use mathlib.Core.List.{List, [], _∷_, _++_}
-use Prim.Native.Nat.{ℕ, zero, suc, _+_, _-_, _*_, _<_, _≤_}
-use native.Mathlib.Omega.{arith}
-use lib.IntN.{ℤ, pos}
-use lib.ListN.{length, getD, take, drop}
+use Rattle.whole.proofs.Basics.{_≡_, _∙_, refl, ap, ap₂, List, [], _∷_, _++_, ℕ, suc, zero, _+_, _-_, _*_, _≤_, _<_, arith, length, take, drop, getD, ℤ, pos, w32, toZ}
 use lib.Seq.{take-all}
-use mir.Syntax.{w32}
-use mir.Val.{toZ}
 use Rattle.stored.specs.Numbers.{word4}
 use Rattle.stored.specs.Words.{words}
 use Rattle.stored.proofs.NumberLaws.{number4-in, number4-more}

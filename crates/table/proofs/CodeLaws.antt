@@ -1,12 +1,7 @@
 -- From a code to its row and back, from a kind to its row and back, and the one row of a start and of an end.
-use mathlib.Core.Path.{_≡_, refl, sym, ap, subst, _∙_}
-use mathlib.Core.List.{List, [], _∷_}
-use mathlib.Core.Logic.{_⊎_, inl, inr}
-use mathlib.Core.Bool.{Bool, true, false, cond, _&&_}
-use Prim.Native.Nat.{ℕ, _<_}
-use native.Mathlib.Omega.{arith}
-use lib.Dec.{T, eqb, ltb, eqb→eq, ltb→lt}
-use borrow.Author.Tests.{eqb-true}
+use Rattle.whole.proofs.Basics.{_≡_, _∙_, refl, sym, ap, subst, Bool, true, false, cond, _⊎_, inl, inr, List, [], _∷_, ℕ, _<_, arith, T, eqb, ltb, eqb-true}
+use mathlib.Core.Bool.{_&&_}
+use lib.Dec.{eqb→eq, ltb→lt}
 use Rattle.formula.specs.declared.Kind.{Kind}
 use Rattle.formula.specs.declared.Kind.the-variants.{Polynomial, Rational, Fraction, Root, NoFormula}
 use Rattle.table.specs.Table.{rows, unknown, firstRow, rowOf}

@@ -1,10 +1,7 @@
 -- The order of a formula's fields and what its bytes tell of them, each by a test that is computed over the table's rows.
-use mathlib.Core.Path.{_≡_, sym, subst}
-use mathlib.Core.Logic.{_⊎_, inl, inr}
-use mathlib.Core.Bool.{Bool, true, false, _&&_, _||_}
-use Prim.Native.Nat.{ℕ, _+_, _*_, _≤_}
-use native.Mathlib.Omega.{arith}
-use lib.Dec.{T, eqb, eqb→eq}
+use Rattle.whole.proofs.Basics.{_≡_, sym, subst, Bool, true, false, _⊎_, inl, inr, ℕ, _+_, _*_, _≤_, arith, T, eqb}
+use mathlib.Core.Bool.{_&&_, _||_}
+use lib.Dec.{eqb→eq}
 use Rattle.table.specs.Table.{rows, rowOf, piecesBy}
 use Rattle.table.specs.Order.{fieldSize, Stands, Ordered, Told}
 use Rattle.table.specs.declared.Class.the-variants.{FormulaRecord}

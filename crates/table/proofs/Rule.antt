@@ -1,10 +1,8 @@
 -- The rule of the table, each clause by a test that is computed over its rows; and what it says of every record of a row.
-use mathlib.Core.Path.{_≡_, sym, ap, subst, _∙_}
-use mathlib.Core.Bool.{Bool, _&&_}
-use Prim.Native.Nat.{ℕ, _+_, _≤_}
+use Rattle.whole.proofs.Basics.{_≡_, _∙_, sym, ap, subst, Bool, ℕ, _+_, _≤_, arith, T, eqb}
+use mathlib.Core.Bool.{_&&_}
 use native.Mathlib.Nat.{mul-le-mul-left, mul-zero}
-use native.Mathlib.Omega.{arith}
-use lib.Dec.{T, eqb, eqb→eq}
+use lib.Dec.{eqb→eq}
 use Rattle.formula.specs.declared.Kind.{Kind}
 use Rattle.formula.specs.declared.Kind.the-variants.{Polynomial, Rational, Fraction, Root, NoFormula}
 use Rattle.table.specs.Table.{rows, field, none, firstRow, rowOf, piecesBy, lengthBy}

@@ -1,10 +1,6 @@
 -- The search for a code, as a `match` on the code's names meets it.
-use mathlib.Core.Path.{_≡_, refl, sym, ap, _∙_}
-use mathlib.Core.List.{List, [], _∷_, map}
-use Prim.Native.Nat.{ℕ}
-use lib.Dec.{eqb}
-use lib.ListN.{getD}
-use borrow.Author.Tests.{ne-eqb}
+use Rattle.whole.proofs.Basics.{_≡_, _∙_, refl, sym, ap, List, [], _∷_, ℕ, eqb, getD, ne-eqb}
+use mathlib.Core.List.{map}
 use Rattle.table.specs.Table.{rows, unknown, firstRow, rowOf}
 use Rattle.table.specs.Lines.{line}
 use Rattle.formula.specs.declared.Kind.the-variants.{Polynomial}

@@ -1,9 +1,7 @@
 -- What holds of every row, and of the unknown one, holds of the row that a search finds: by a test that is computed over them all.
-use mathlib.Core.Path.{_≡_, subst}
-use mathlib.Core.List.{List, [], _∷_}
-use mathlib.Core.Bool.{Bool, true, false, cond, not, _&&_}
-use Prim.Native.Nat.{ℕ, _<_, _≤_}
-use lib.Dec.{T, leb, ltb, eqb, leb→le, ltb→lt, eqb-refl}
+use Rattle.whole.proofs.Basics.{_≡_, subst, Bool, true, false, cond, not, List, [], _∷_, ℕ, _≤_, _<_, T, eqb, ltb, leb}
+use mathlib.Core.Bool.{_&&_}
+use lib.Dec.{leb→le, ltb→lt, eqb-refl}
 use Rattle.table.specs.Table.{rows, unknown, firstRow, rowOf}
 use Rattle.table.specs.Codes.{classTag, ofClass}
 use Rattle.table.specs.Rule.{Framing}

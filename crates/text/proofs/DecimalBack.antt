@@ -1,12 +1,6 @@
 -- Promise: the digits of a number of 64 bits, read from the left, are that number, and the first of several is not 0.
-use mathlib.Core.Path.{_≡_, _∙_, refl}
-use mathlib.Core.List.{List, [], _∷_, _++_}
-use mathlib.Core.Bool.{Bool, true, false, cond}
-use Prim.Native.Nat.{ℕ, zero, suc, _+_, _-_, _*_, _/_, _%_, _^_, _<_}
+use Rattle.whole.proofs.Basics.{_≡_, _∙_, refl, Bool, true, false, cond, List, [], _∷_, _++_, ℕ, suc, zero, _+_, _-_, _*_, _/_, _%_, _^_, _<_, arith, ltb, ltb-false}
 use native.Mathlib.Nat.{pow-suc}
-use native.Mathlib.Omega.{arith}
-use lib.Dec.{ltb}
-use borrow.Author.Tests.{ltb-false}
 use Rattle.text.specs.Text.{digit, digitsBy, decimal}
 
 -- the number that digits stand for, after those in front of them have given n

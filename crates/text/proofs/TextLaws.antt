@@ -1,16 +1,8 @@
 -- Texts put into a buffer one behind the other, by one run of stores behind another; and the digits of a number, by induction on how many there are.
-use mathlib.Core.Path.{_≡_, _∙_, refl, sym, ap}
-use mathlib.Core.List.{List, [], _∷_, _++_}
-use mathlib.Core.Bool.{Bool, true, false, cond}
-use Prim.Native.Nat.{ℕ, zero, suc, _+_, _/_, _%_, _^_, _≤_, _<_}
+use Rattle.whole.proofs.Basics.{_≡_, _∙_, refl, sym, ap, Bool, true, false, cond, List, [], _∷_, _++_, ℕ, suc, zero, _+_, _/_, _%_, _^_, _≤_, _<_, arith, ltb, length, drop, length-append, ℤ, pos, negsuc, natAbs, ltZ, ltb-true, ltb-false, lt-ltb, le-ltb}
 use native.Mathlib.Nat.{zero-add, pow-suc}
-use native.Mathlib.Omega.{arith}
-use lib.Dec.{ltb}
-use lib.IntN.{ℤ, pos, negsuc, natAbs}
-use lib.Signed.{ltZ}
-use lib.ListN.{length, drop, set, length-append}
+use lib.ListN.{set}
 use lib.Seq.{sets, length-sets}
-use borrow.Author.Tests.{lt-ltb, le-ltb, ltb-true, ltb-false}
 use Rattle.stored.proofs.StoreLaws.{next, sets-front}
 use Rattle.text.specs.Text.{text, digit, digitsBy, decimal, signed, Puts}
 

@@ -1,7 +1,6 @@
 -- Promise: each function asks nothing of its caller, and settles its result and what the lent buffers hold afterwards: two that
 -- satisfy its contract are equal.
-use mathlib.Core.Path.{_≡_, sym, _∙_}
-use denote.Ref.{now}
+use Rattle.whole.proofs.Basics.{_≡_, _∙_, sym, now}
 use denote.Triple.Clauses.{AtExit}
 use contract.Lifetimes.{Lfts}
 use borrow.Fn.Kinds.{Dens, endedOf, resT}

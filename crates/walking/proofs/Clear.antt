@@ -1,13 +1,5 @@
 -- What it says that there is no fault at the walk's place: the chain taken apart, and each class by itself.
-use mathlib.Core.Path.{_≡_, refl, sym, subst}
-use mathlib.Core.List.{List}
-use mathlib.Core.Bool.{Bool, true, false, cond}
-use mathlib.Core.Logic.{_⊎_, inl, inr}
-use Prim.Native.Nat.{ℕ, suc, _-_, _≤_}
-use native.Mathlib.Omega.{arith}
-use lib.Dec.{eqb, ltb}
-use lib.ListN.{length}
-use borrow.Author.Tests.{eq-eqb, eqb-true, eqb-false, ltb-false}
+use Rattle.whole.proofs.Basics.{_≡_, refl, sym, subst, Bool, true, false, cond, _⊎_, inl, inr, List, ℕ, suc, _-_, _≤_, arith, eqb, ltb, length, eqb-true, eqb-false, ltb-false, eq-eqb}
 use Rattle.word.specs.Words.{Scale}
 use Rattle.table.specs.declared.Class.{Class}
 use Rattle.table.specs.declared.Class.the-variants.{StartRecord, FormulaRecord, EndRecord, Unknown}

@@ -1,13 +1,6 @@
 -- A stretch of formula records, one behind the other: the walk goes past each, and is then where the next record stands.
-use mathlib.Core.Path.{_≡_, _∙_, refl, sym, ap, subst}
-use mathlib.Core.List.{List, [], _∷_, _++_, append-assoc}
-use mathlib.Core.Bool.{false, cond}
-use Prim.Native.Nat.{ℕ, zero, suc, _+_, _-_, _≤_}
+use Rattle.whole.proofs.Basics.{_≡_, _∙_, refl, sym, ap, subst, false, cond, List, [], _∷_, _++_, append-assoc, ℕ, suc, zero, _+_, _-_, _≤_, arith, eqb, length, length-append, ne-eqb, le-ltb}
 use native.Mathlib.Nat.{zero-add}
-use native.Mathlib.Omega.{arith}
-use lib.Dec.{eqb}
-use lib.ListN.{length, length-append}
-use borrow.Author.Tests.{ne-eqb, le-ltb}
 use Rattle.table.specs.declared.Class.{Class}
 use Rattle.table.specs.declared.Class.the-variants.{FormulaRecord}
 use Rattle.layout.specs.Fields.{rowFor, formulaNumber}

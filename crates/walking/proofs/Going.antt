@@ -1,10 +1,5 @@
 -- The walk as the loop has it: what holds before each record, and that a record without fault keeps it.
-use mathlib.Core.Path.{_≡_, _∙_, refl, ap}
-use mathlib.Core.List.{List}
-use mathlib.Core.Bool.{false}
-use Prim.Native.Nat.{ℕ, zero, suc, _+_, _-_, _≤_, _<_}
-use native.Mathlib.Omega.{arith}
-use lib.ListN.{length}
+use Rattle.whole.proofs.Basics.{_≡_, _∙_, refl, ap, false, List, ℕ, suc, zero, _+_, _-_, _≤_, _<_, arith, length}
 use Rattle.word.specs.Words.{Scale}
 use Rattle.stored.specs.Numbers.{number4}
 use Rattle.table.specs.declared.Class.{Class}

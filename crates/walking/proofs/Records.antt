@@ -1,12 +1,8 @@
 -- A record in the middle of other bytes: read there, and put there; its first four bytes say how long it is.
-use mathlib.Core.Path.{_≡_, _∙_, sym, ap}
-use mathlib.Core.List.{List, _++_}
-use Prim.Native.Nat.{ℕ, _+_, _-_}
+use Rattle.whole.proofs.Basics.{_≡_, _∙_, sym, ap, List, _++_, ℕ, _+_, _-_, arith, length, take, drop, length-append, le-ltb}
 use native.Mathlib.Nat.{add-zero}
-use native.Mathlib.Omega.{arith}
-use lib.ListN.{length, take, drop, length-append, take-append-drop}
+use lib.ListN.{take-append-drop}
 use lib.Seq.{drop-drop, drop-append-seam, take-append-seam}
-use borrow.Author.Tests.{le-ltb}
 use Rattle.table.specs.declared.Class.{Class}
 use Rattle.stored.specs.Numbers.{number4}
 use Rattle.stored.proofs.NumberLaws.{number4-in, number4-drop, number4-more}

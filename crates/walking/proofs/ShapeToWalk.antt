@@ -1,12 +1,5 @@
 -- What the walk makes of the bytes of a sheet, with anything behind them, and of a run: a start, then past each formula, then the end.
-use mathlib.Core.Path.{_≡_, _∙_, refl, sym, ap}
-use mathlib.Core.List.{List, [], _++_, append-assoc, append-nil}
-use mathlib.Core.Bool.{cond}
-use Prim.Native.Nat.{ℕ, suc, _+_, _-_, _≤_}
-use native.Mathlib.Omega.{arith}
-use lib.Dec.{ltb}
-use lib.ListN.{length, length-append}
-use borrow.Author.Tests.{eq-eqb, ne-eqb, le-ltb}
+use Rattle.whole.proofs.Basics.{_≡_, _∙_, refl, sym, ap, cond, List, [], _++_, append-assoc, append-nil, ℕ, suc, _+_, _-_, _≤_, arith, ltb, length, length-append, eq-eqb, ne-eqb, le-ltb}
 use Rattle.word.specs.Words.{Scale}
 use Rattle.table.specs.declared.Class.{Class}
 use Rattle.table.specs.declared.Class.the-variants.{StartRecord, EndRecord}

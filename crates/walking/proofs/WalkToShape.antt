@@ -1,14 +1,7 @@
 -- A walk that ends well, from its end backwards: the records that it went over.
-use mathlib.Core.Path.{_≡_, _∙_, refl, sym, ap, subst}
-use mathlib.Core.List.{List, [], _∷_, _++_, append-nil, append-assoc}
-use mathlib.Core.Logic.{_⊎_, inl, inr}
-use mathlib.Core.Bool.{Bool, true, false, cond}
-use Prim.Native.Nat.{ℕ, zero, suc, _+_, _-_, _≤_}
+use Rattle.whole.proofs.Basics.{_≡_, _∙_, refl, sym, ap, subst, Bool, true, false, cond, _⊎_, inl, inr, List, [], _∷_, _++_, append-assoc, append-nil, ℕ, suc, zero, _+_, _-_, _≤_, arith, ltb, length, drop, eqb-true, ltb-false}
 use native.Mathlib.Nat.{zero-add}
-use native.Mathlib.Omega.{arith}
-use lib.Dec.{ltb}
-use lib.ListN.{length, drop, drop-of-length-le}
-use borrow.Author.Tests.{eqb-true, ltb-false}
+use lib.ListN.{drop-of-length-le}
 use Rattle.table.specs.declared.Class.{Class}
 use Rattle.table.specs.declared.Class.the-variants.{StartRecord, FormulaRecord, EndRecord, Unknown}
 use Rattle.layout.specs.Fields.{bytesAt, rowFor, countOf, formulaNumber}

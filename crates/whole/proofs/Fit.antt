@@ -1,10 +1,8 @@
 -- When a whole number fits a signed width, by its parts.
-use Prim.Native.Nat.{ℕ, _+_, _^_, _<_, _≤_}
-use native.Mathlib.Omega.{arith}
-use lib.IntN.{ℤ, pos, negsuc, natAbs}
+use Rattle.whole.proofs.Basics.{ℕ, _+_, _^_, _≤_, _<_, arith, ℤ, pos, negsuc, natAbs, SFits}
 use lib.Signed.{mag}
 use mir.Syntax.{Width}
-use mir.Val.{SFits, hbits}
+use mir.Val.{hbits}
 use Rattle.whole.proofs.Diff.{Diff, P, N, v, abs-is}
 
 mag-lt : (z : ℤ) (H : ℕ) → P z < H + N z → N z ≤ P z + H → mag z < H

@@ -1,10 +1,7 @@
 -- Division of a whole number by a natural: rounded down (`shrZ`), towards zero (`quotZ`, `remZ`), and the first by means of the second.
-use mathlib.Core.Path.{_≡_, refl, sym, ap}
-use Prim.Native.Nat.{ℕ, zero, suc, _+_, _*_, _/_, _%_, _<_, _≤_}
+use Rattle.whole.proofs.Basics.{_≡_, refl, sym, ap, ℕ, suc, zero, _+_, _*_, _/_, _%_, _≤_, _<_, arith, ℤ, pos, negsuc, natAbs, negℤ, _-ℤ_, _≤ℤ_, _<ℤ_}
 use native.Mathlib.Nat.{div-add-mod, mod-lt, lt-of-mul-lt-mul-left, div-le-self}
-use native.Mathlib.Omega.{arith}
-use lib.IntN.{ℤ, pos, negsuc, negℤ, natAbs, _-ℤ_}
-use lib.Signed.{_≤ℤ_, _<ℤ_, shrZ, quotZ, remZ}
+use lib.Signed.{shrZ, quotZ, remZ}
 use Rattle.whole.proofs.Diff.{Diff, P, N, v, n, _⊝_, same, below-out, strict-out}
 use Rattle.whole.proofs.Order.{abs-neg}
 

@@ -1,17 +1,13 @@
 -- What a signed local holds. A signed local holds bits, so each operation of the code reads its operands back, `toZ w (ofZ w x)`, and a goal nests these as deep as the code.
 -- `Held w x y` says that the code's number x, which still has these readings in it, is y, and that y fits: there is one rule for each operation, which takes the operands' facts and that the result fits.
 -- `h .fits-code` answers the need of the operation itself, and `held h ∙ ..` a `returns`.
-use mathlib.Core.Path.{_≡_, refl, sym, ap, ap₂, _∙_, subst}
-use mathlib.Core.Bool.{Bool, true, false, not}
-use lib.Dec.{T, ltb, leb}
-use Prim.Native.Nat.{ℕ, zero, suc, _+_, _*_, _-_, _%_, _^_, _<_, _≤_}
+use Rattle.whole.proofs.Basics.{_≡_, _∙_, refl, sym, ap, ap₂, subst, Bool, true, false, not, ℕ, suc, zero, _+_, _-_, _*_, _%_, _^_, _≤_, _<_, arith, T, ltb, leb, ℤ, pos, negsuc, natAbs, negℤ, _+ℤ_, _-ℤ_, _*ℤ_, _≤ℤ_, _<ℤ_, ltZ, SFits, toZ, ofZ, toZ-ofZ}
 use native.Mathlib.Nat.{add-mul-mod-self-left, mod-eq-of-lt}
-use native.Mathlib.Omega.{arith}
-use lib.IntN.{ℤ, pos, negsuc, negℤ, natAbs, _+ℤ_, _-ℤ_, _*ℤ_, +ℤ-idl}
-use lib.Signed.{nonNeg, yes-nonNeg, _≤ℤ_, _<ℤ_, ltZ, ltZ-no, mag, shrZ, quotZ, remZ, mag-shr, mag-rem}
+use lib.IntN.{+ℤ-idl}
+use lib.Signed.{nonNeg, yes-nonNeg, ltZ-no, mag, shrZ, quotZ, remZ, mag-shr, mag-rem}
 use mir.Syntax.{Width}
-use mir.Val.{Fits, SFits, bits, hbits, toZ, ofZ}
-use mir.Facts.{toZ-ofZ, sfits-lit, sfits-widen}
+use mir.Val.{Fits, bits, hbits}
+use mir.Facts.{sfits-lit, sfits-widen}
 use mir.ValLaws.{sfits-le, pow-bits}
 use Rattle.whole.proofs.Fit.{fit-abs}
 use Rattle.whole.proofs.Floor.{quot-abs}

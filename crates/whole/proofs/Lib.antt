@@ -1,4 +1,5 @@
 -- The laws of the whole numbers, lowest first.
+pub mod Basics
 pub mod Diff
 pub mod Ring
 pub mod Settled

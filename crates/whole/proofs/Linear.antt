@@ -1,9 +1,5 @@
 -- Linear goals over ℤ: `omega (zarith, ..)` reads ℤ's equations and orders among the hypotheses, and proves one, through the parts.
-use mathlib.Core.Path.{_≡_}
-use Prim.Native.Nat.{_+_, _≤_}
-use native.Mathlib.Omega.{arith}
-use lib.IntN.{ℤ, pos, natAbs, _+ℤ_, _-ℤ_, _*ℤ_}
-use lib.Signed.{_≤ℤ_, _<ℤ_}
+use Rattle.whole.proofs.Basics.{_≡_, _+_, _≤_, arith, ℤ, pos, natAbs, _+ℤ_, _-ℤ_, _*ℤ_, _≤ℤ_, _<ℤ_}
 use Rattle.whole.proofs.Diff.{P, N, v, n, _⊕_, _⊗_, _⊝_, same-out, parts-le, parts-le-out, parts-lt, parts-lt-out, parts-eq, abs-is, size}
 
 pub parts-eq-out : (x y : ℤ) → x ≡ y → P x + N y ≡ P y + N x

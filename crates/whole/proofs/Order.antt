@@ -1,9 +1,5 @@
 -- The order of ℤ and sizes.
-use mathlib.Core.Path.{_≡_, refl}
-use Prim.Native.Nat.{ℕ, suc, _+_, _*_, _≤_}
-use native.Mathlib.Omega.{arith}
-use lib.IntN.{ℤ, pos, negsuc, negℤ, natAbs, _+ℤ_, _*ℤ_}
-use lib.Signed.{_≤ℤ_}
+use Rattle.whole.proofs.Basics.{_≡_, refl, ℕ, suc, _+_, _*_, _≤_, arith, ℤ, pos, negsuc, natAbs, negℤ, _+ℤ_, _*ℤ_, _≤ℤ_}
 use Rattle.whole.proofs.Diff.{v, n, _⊕_, ⊖_, same, below, below-out, abs-is, size, near, parts-le-out}
 
 pub ≤ℤ-trans : {a b c : ℤ} → a ≤ℤ b → b ≤ℤ c → a ≤ℤ c

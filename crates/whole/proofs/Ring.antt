@@ -1,12 +1,10 @@
 -- Identities of polynomials over ℤ, of any degree and any number of variables, by computing: both sides are written as a term `X` over numbered variables,
 -- their difference is multiplied out, and `ring` asks that every coefficient is 0, which `tt` proves.
-use mathlib.Core.Path.{_≡_, refl, sym, ap, ap₂, _∙_}
-use mathlib.Core.List.{List, [], _∷_}
-use mathlib.Core.Bool.{Bool, true, false, _&&_}
-use Prim.Native.Nat.{ℕ, zero, suc, compare, Ordering, Ordering·lt, Ordering·eq, Ordering·gt}
-use native.Mathlib.Omega.{arith}
-use lib.Dec.{T, eqb, eqb→eq}
-use lib.IntN.{ℤ, pos, negsuc, negℤ, _+ℤ_, _*ℤ_, +ℤ-idl, zero-*ℤ}
+use Rattle.whole.proofs.Basics.{_≡_, _∙_, refl, sym, ap, ap₂, Bool, true, false, List, [], _∷_, ℕ, suc, zero, arith, T, eqb, ℤ, pos, negsuc, negℤ, _+ℤ_, _*ℤ_}
+use mathlib.Core.Bool.{_&&_}
+use Prim.Native.Nat.{compare, Ordering, Ordering·lt, Ordering·eq, Ordering·gt}
+use lib.Dec.{eqb→eq}
+use lib.IntN.{+ℤ-idl, zero-*ℤ}
 use Rattle.whole.proofs.Diff.{v, n, _⊕_, _⊗_, ⊖_, same, same-out}
 
 pub data X : Type 0 where

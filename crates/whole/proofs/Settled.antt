@@ -1,7 +1,5 @@
 -- What a contract settles, and that it asks nothing of its caller. Both are said over the contract itself: `Asked` is what a caller owes, `Learnt` what it learns.
-use mathlib.Core.Path.{_≡_}
-use mathlib.Core.List.{List}
-use Prim.Native.Nat.{ℕ}
+use Rattle.whole.proofs.Basics.{_≡_, List, ℕ}
 use contract.Lifetimes.{Lfts}
 use borrow.Fn.Kinds.{PK, RK, In, Out, Dens, endedOf, resT}
 use denote.Triple.Clauses.{AtExit}

@@ -1,9 +1,7 @@
 -- Heron's rule: it falls while it is above the root, it never passes below, and where it stops falling it is the root.
-use mathlib.Core.Path.{subst}
-use Prim.Native.Nat.{ℕ, zero, suc, _+_, _*_, _/_, _^_, _<_, _≤_}
+use Rattle.whole.proofs.Basics.{subst, ℕ, suc, zero, _+_, _*_, _/_, _^_, _≤_, _<_, arith}
 use native.Mathlib.Nat.{mul-le-mul-left, div-add-mod, mod-lt, lt-of-mul-lt-mul-left, le-dest}
 use native.Mathlib.Decide.{decLe}
-use native.Mathlib.Omega.{arith}
 use lib.Pow.{pow-mono, pow-add}
 
 -- one step

@@ -1,9 +1,5 @@
 -- Laws of `All` over joined lists and of `Words` over parts of a list: by induction along the list.
-use mathlib.Core.List.{List, [], _∷_, _++_}
-use Prim.Native.Nat.{ℕ, zero, suc, _+_}
-use native.Mathlib.Omega.{arith}
-use lib.IntN.{ℤ}
-use lib.ListN.{take}
+use Rattle.whole.proofs.Basics.{List, [], _∷_, _++_, ℕ, suc, zero, _+_, arith, take, ℤ}
 use Rattle.word.specs.Lists.{All, Words}
 
 pub all-append : (p : ℤ → Type 0) (a b : List ℤ) → All p a → All p b → All p (a ++ b)

@@ -1,12 +1,7 @@
 -- The laws of the root: its two inequalities, which each digit of the definition keeps, that they determine it, and that it is the largest.
-use mathlib.Core.Path.{_≡_, refl}
-use mathlib.Core.Bool.{Bool, true, false, cond}
-use Prim.Native.Nat.{ℕ, zero, suc, _+_, _*_, _/_, _^_, _<_, _≤_}
+use Rattle.whole.proofs.Basics.{_≡_, refl, Bool, true, false, cond, ℕ, suc, zero, _+_, _*_, _/_, _^_, _≤_, _<_, arith, leb, ℤ, natAbs}
 use native.Mathlib.Nat.{mul-le-mul, div-add-mod, mod-lt}
 use native.Mathlib.Decide.{decLe}
-use native.Mathlib.Omega.{arith}
-use lib.Dec.{leb}
-use lib.IntN.{ℤ, natAbs}
 use borrow.Author.Tests.{leb-true, leb-false}
 use Rattle.word.specs.Words.{Word, Rootable, unit}
 use Rattle.word.specs.Root.{RootOf, rootIn, rootOf, rootWord}

@@ -1,12 +1,9 @@
 -- The laws of rounding: how near, how large, exact where it divides, where a tie goes, and that these determine the result.
 -- All follow from two inequalities in the parts, `Nearest`. A change of the tie rule changes `lifted`, `Nearest`, `rounded-tie` and `rounded-determined`; the other laws keep their statements.
-use mathlib.Core.Path.{_≡_, refl, sym}
+use Rattle.whole.proofs.Basics.{_≡_, refl, sym, ℕ, _+_, _-_, _*_, _/_, _≤_, _<_, arith, ℤ, pos, natAbs, _+ℤ_, _-ℤ_, _*ℤ_, _≤ℤ_}
 use native.Mathlib.Decide.{decLe}
-use Prim.Native.Nat.{ℕ, _+_, _*_, _-_, _/_, _<_, _≤_}
 use native.Mathlib.Nat.{div-add-mod, mod-lt, mul-le-mul-left, le-of-mul-le-mul-left, lt-of-mul-lt-mul-left, mul-lt-mul-of-pos-left}
-use native.Mathlib.Omega.{arith}
-use lib.IntN.{ℤ, pos, natAbs, _+ℤ_, _-ℤ_, _*ℤ_}
-use lib.Signed.{_≤ℤ_, shrZ}
+use lib.Signed.{shrZ}
 use Rattle.whole.proofs.Diff.{Diff, P, N, v, n, _⊕_, _⊗_, _⊝_, same-out, size, near, abs-is, below, below-out}
 use Rattle.whole.proofs.Floor.{floor-of, floor-is}
 use Rattle.whole.proofs.Order.{abs-add}

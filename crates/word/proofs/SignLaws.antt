@@ -1,10 +1,6 @@
 -- The laws of the sign, by its two cases: what it leaves of a number, and that a number is its size with its sign put back.
-use mathlib.Core.Path.{_≡_, refl}
-use mathlib.Core.Bool.{Bool, true, false}
-use native.Mathlib.Omega.{arith}
-use Prim.Native.Nat.{ℕ, suc}
-use lib.IntN.{ℤ, pos, negsuc, natAbs, _-ℤ_, _*ℤ_}
-use lib.Signed.{_≤ℤ_, _<ℤ_, clashℤ}
+use Rattle.whole.proofs.Basics.{_≡_, refl, Bool, true, false, ℕ, suc, arith, ℤ, pos, negsuc, natAbs, _-ℤ_, _*ℤ_, _≤ℤ_, _<ℤ_}
+use lib.Signed.{clashℤ}
 use Rattle.whole.proofs.Diff.{v, n, _⊗_, _⊝_, ⊖_, same, size}
 use Rattle.whole.proofs.Order.{pos-le, abs-neg}
 use Rattle.word.specs.Words.{belowZero, withSign}

@@ -1,10 +1,8 @@
 -- The laws of product, quotient and their bounds, over the binary places: those of rounding, at a·b / 2^s and at a·2^s / d. Everything above this crate uses these.
-use mathlib.Core.Path.{_≡_, sym, ap, _∙_}
-use native.Mathlib.Omega.{arith}
+use Rattle.whole.proofs.Basics.{_≡_, _∙_, sym, ap, ℕ, _*_, _^_, _≤_, _<_, arith, ℤ, pos, natAbs, _-ℤ_, _*ℤ_}
 use native.Mathlib.Nat.{mul-le-mul, mul-le-mul-left}
-use Prim.Native.Nat.{ℕ, _*_, _^_, _<_, _≤_}
 use lib.Pow.{pow-pos, pow-mono}
-use lib.IntN.{ℤ, pos, natAbs, _-ℤ_, _*ℤ_, zero-*ℤ}
+use lib.IntN.{zero-*ℤ}
 use Rattle.whole.proofs.Order.{abs-mul}
 use Rattle.word.specs.Rounded.{rounded}
 use Rattle.word.specs.Words.{NotZero, unit, belowZero, withSign, productOf, quotientOf, boundProduct, boundQuotient}

@@ -1,13 +1,5 @@
 -- `board::answer_of` meets its contract: a test for each end of the interval, then the formula's answer.
-use borrow.Author.Needs.{needs}
-use mathlib.Core.Path.{sym, ap, _∙_, subst}
-use mathlib.Core.List.{List}
-use Prim.Native.Nat.{ℕ}
-use native.Mathlib.Omega.{arith}
-use denote.Ref.{now}
-use lib.IntN.{ℤ}
-use lib.Signed.{_≤ℤ_}
-use mir.Syntax.{w32}
+use Rattle.whole.proofs.Basics.{_∙_, sym, ap, subst, List, ℕ, arith, ℤ, _≤ℤ_, w32, now, needs}
 use Rattle.whole.proofs.Fit.{fit-abs}
 use Rattle.whole.proofs.Held.{Held, held, arg, known, given, tested-lt, tested-ge}
 use Rattle.formula.specs.declared.Formula.{Formula}

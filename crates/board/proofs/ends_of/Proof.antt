@@ -1,10 +1,5 @@
 -- `board::ends_of` meets its contract: both ends are shown exactly.
-use borrow.Author.Needs.{needs}
-use mathlib.Core.Path.{subst}
-use native.Mathlib.Omega.{arith}
-use denote.Ref.{now}
-use lib.IntN.{ℤ}
-use mir.Syntax.{w32}
+use Rattle.whole.proofs.Basics.{subst, arith, ℤ, w32, now, needs}
 use Rattle.whole.proofs.Held.{held, known}
 use Rattle.whole.proofs.Fit.{fit-abs}
 use Rattle.door.specs.Exact.{Exactly}

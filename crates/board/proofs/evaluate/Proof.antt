@@ -1,8 +1,5 @@
 -- `board::evaluate` meets its contract: the answer of the record that stands at the place, or the place's refusal.
-use borrow.Author.Needs.{needs}
-use mathlib.Core.Path.{_≡_, sym, _∙_}
-use denote.Ref.{now}
-use mir.Facts.{toZ-ofZ}
+use Rattle.whole.proofs.Basics.{_≡_, _∙_, sym, toZ-ofZ, now, needs}
 use Rattle.formula.specs.declared.Formula.{Formula}
 use Rattle.sheet.specs.Reader.{formulaPlace, FormulaStands}
 use Rattle.sheet.specs.declared.answers.Place.the-variants.{At}

@@ -1,7 +1,5 @@
 -- `board::evaluate_double` meets its contract: the answer of the record that stands at the place, shown as a double, or the place's refusal.
-use borrow.Author.Needs.{needs}
-use mathlib.Core.Path.{_≡_, refl, sym, _∙_, subst}
-use denote.Ref.{now}
+use Rattle.whole.proofs.Basics.{_≡_, _∙_, refl, sym, subst, now, needs}
 use Rattle.formula.specs.declared.Formula.{Formula}
 use Rattle.sheet.specs.Reader.{formulaPlace, FormulaStands}
 use Rattle.sheet.specs.declared.answers.Place.the-variants.{At}

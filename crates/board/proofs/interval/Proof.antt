@@ -1,7 +1,5 @@
 -- `board::interval` meets its contract: the ends of the record that stands at the place, or the place's refusal.
-use borrow.Author.Needs.{needs}
-use mathlib.Core.Path.{_≡_, sym, _∙_}
-use denote.Ref.{now}
+use Rattle.whole.proofs.Basics.{_≡_, _∙_, sym, now, needs}
 use Rattle.sheet.specs.Reader.{formulaPlace, FormulaStands}
 use Rattle.sheet.specs.declared.answers.Place.the-variants.{At}
 use Rattle.sheet.proofs.Places.{place-standing}

@@ -1,9 +1,5 @@
 -- `board::shown` meets its contract: the answer's word by the door, or the same refusal.
-use borrow.Author.Needs.{needs}
-use mathlib.Core.Path.{refl, sym, subst}
-use lib.IntN.{ℤ}
-use mir.Syntax.{w32}
-use mir.Val.{SFits}
+use Rattle.whole.proofs.Basics.{refl, sym, subst, ℤ, w32, SFits, needs}
 use Rattle.whole.proofs.Held.{held, arg}
 use Rattle.door.specs.Exact.{Exactly}
 use Rattle.board.specs.Board.{ShownAs}

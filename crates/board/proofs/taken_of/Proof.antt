@@ -1,10 +1,5 @@
 -- `board::taken_of` meets its contract: the answer at the word that the double is taken as, or the door's refusal.
-use borrow.Author.Needs.{needs}
-use mathlib.Core.Path.{sym, ap, _∙_}
-use denote.Ref.{now}
-use mir.Syntax.{w32}
-use mir.Val.{SFits}
-use mir.Facts.{toZ-ofZ}
+use Rattle.whole.proofs.Basics.{_∙_, sym, ap, w32, SFits, toZ-ofZ, now, needs}
 use Rattle.formula.specs.declared.Formula.{Formula}
 use Rattle.sheet.specs.Reader.{formulaIn}
 use Rattle.board.specs.Board.{takenBy}

@@ -1,9 +1,5 @@
 -- `board::word_at` meets its contract: the kind's own answer, by the row of the record's code.
-use borrow.Author.Needs.{needs}
-use mathlib.Core.Path.{_∙_}
-use native.Mathlib.Omega.{arith}
-use denote.Ref.{now}
-use mir.Syntax.{w32}
+use Rattle.whole.proofs.Basics.{_∙_, arith, w32, now, needs}
 use Rattle.whole.proofs.Held.{held, arg, given}
 use Rattle.layout.specs.Fields.{rowFor, Complete}
 use Rattle.layout.proofs.Complete.{reach}

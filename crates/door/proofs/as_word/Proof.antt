@@ -1,12 +1,7 @@
 -- `door::as_word` meets its contract: its two tests are that z is no word.
-use mathlib.Core.Path.{sym, ap, _∙_}
+use Rattle.whole.proofs.Basics.{_∙_, sym, ap, _≤_, _<_, arith, ℤ, pos, natAbs, negℤ, _<ℤ_, w32}
 use mathlib.Core.Bool.{true≢false}
 use mathlib.Core.Logic.{⊎-elim}
-use Prim.Native.Nat.{_<_, _≤_}
-use native.Mathlib.Omega.{arith}
-use lib.IntN.{ℤ, pos, negℤ, natAbs}
-use lib.Signed.{_<ℤ_}
-use mir.Syntax.{w32}
 use Rattle.whole.proofs.Diff.{abs-is}
 use Rattle.whole.proofs.Fit.{fit-abs}
 use Rattle.whole.proofs.Held.{fits-code, held, arg, lit, cast, tested-lt, tested-ge}

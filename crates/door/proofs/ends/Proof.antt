@@ -1,8 +1,5 @@
 -- `door::ends` meets its contract: each end, read back from its bits, is that end.
-use borrow.Author.Needs.{needs}
-use mathlib.Core.Path.{subst}
-use lib.IntN.{ℤ}
-use mir.Syntax.{w32}
+use Rattle.whole.proofs.Basics.{subst, ℤ, w32, needs}
 use mir.ValLaws.{toZ-ofZ}
 use Rattle.door.specs.Exact.{Exactly}
 use Rattle.door.proofs.ends.Statement.{statement}

@@ -1,13 +1,8 @@
 -- `door::shown` meets its contract: w is read back from its bits, and `1 << s` does not wrap.
-use borrow.Author.Needs.{needs}
-use mathlib.Core.Path.{_≡_, sym, ap₂, _∙_, subst}
-use Prim.Native.Nat.{ℕ, _*_, _%_, _^_, _≤_}
+use Rattle.whole.proofs.Basics.{_≡_, _∙_, sym, ap₂, subst, ℕ, _*_, _%_, _^_, _≤_, arith, ℤ, pos, w32, needs}
 use native.Mathlib.Nat.{one-mul, mod-eq-of-lt}
-use native.Mathlib.Omega.{arith}
-use lib.IntN.{ℤ, pos}
 use lib.Pow.{pow-lt}
 use lib.Ieee.{binary64, div, ofInt}
-use mir.Syntax.{w32}
 use mir.ValLaws.{toZ-ofZ}
 use Rattle.whole.proofs.Diff.{v, size}
 use Rattle.whole.proofs.Fit.{fit-out}

@@ -1,15 +1,9 @@
 -- `door::taken` meets its contract: x is read back from the fields that the code takes, and each return is a law of `FieldLaws` at them.
-use borrow.Author.Needs.{needs}
-use mathlib.Core.Path.{_≡_, sym, ap, _∙_, subst}
-use mathlib.Core.Bool.{false, not, true≢false}
-use Prim.Native.Nat.{ℕ, _+_, _-_, _^_}
-use native.Mathlib.Omega.{arith}
+use Rattle.whole.proofs.Basics.{_≡_, _∙_, sym, ap, subst, false, not, ℕ, _+_, _-_, _^_, arith, T, ℤ, pos, natAbs, w64, needs}
+use mathlib.Core.Bool.{true≢false}
 use lib.Bits.{bitOr}
-use lib.Dec.{T}
-use lib.IntN.{ℤ, pos, natAbs}
 use lib.Ieee.{Float, nan, inf, fin, binary64, fits, isNan, ne, hid, toBits, ofFields}
 use lib.Ieee.Compare.{differs-from-itself}
-use mir.Syntax.{w64}
 use Rattle.whole.proofs.Diff.{n}
 use Rattle.whole.proofs.Fit.{fit}
 use Rattle.whole.proofs.Held.{back, Held, fits-code, held, held-nat, given, known}

@@ -1,11 +1,5 @@
 -- `formula::answer` meets its contract: each kind's own answer, over as many words as the kind has.
-use borrow.Author.Needs.{needs}
-use mathlib.Core.Path.{_≡_, sym, ap, ap₂, _∙_, subst}
-use mathlib.Core.List.{List}
-use Prim.Native.Nat.{ℕ, _+_, _*_}
-use lib.IntN.{ℤ}
-use lib.ListN.{take, drop}
-use mir.Syntax.{w32}
+use Rattle.whole.proofs.Basics.{_≡_, _∙_, sym, ap, ap₂, subst, List, ℕ, _+_, _*_, take, drop, ℤ, w32, needs}
 use Rattle.whole.proofs.Held.{back, held, arg, given}
 use Rattle.word.specs.Words.{Rootable}
 use Rattle.stored.specs.Words.{words, Stretch}

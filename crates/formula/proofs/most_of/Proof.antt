@@ -1,8 +1,5 @@
 -- `formula::most_of` meets its contract.
-use borrow.Author.Needs.{needs}
-use mathlib.Core.Path.{_≡_, _∙_}
-use native.Mathlib.Omega.{arith}
-use lib.IntN.{natAbs}
+use Rattle.whole.proofs.Basics.{_≡_, _∙_, arith, natAbs, needs}
 use Rattle.whole.proofs.Held.{held-nat, arg}
 use Rattle.formula.proofs.IntervalLaws.{most-high, most-low}
 use Rattle.formula.proofs.most_of.Statement.{statement}

@@ -1,11 +1,5 @@
 -- `fraction::outward` meets its contract: one step, and the walk from there on. The depth j falls.
-use borrow.Author.Needs.{needs}
-use mathlib.Core.Path.{_≡_, refl, sym, ap₂, _∙_, subst}
-use mathlib.Core.List.{List}
-use Prim.Native.Nat.{ℕ, suc, _+_, _-_, _<_, _≤_}
-use native.Mathlib.Omega.{arith}
-use lib.IntN.{ℤ}
-use mir.Syntax.{w32}
+use Rattle.whole.proofs.Basics.{_≡_, _∙_, refl, sym, ap₂, subst, List, ℕ, suc, _+_, _-_, _≤_, _<_, arith, ℤ, w32, needs}
 use Rattle.whole.proofs.Fit.{fit-abs}
 use Rattle.whole.proofs.Held.{back, held, arg, known, given}
 use Rattle.stored.specs.Words.{words}

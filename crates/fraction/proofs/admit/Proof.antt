@@ -1,9 +1,5 @@
 -- `fraction::admit` meets its contract: what the inner walk has judged is carried over, mode by mode.
-use borrow.Author.Needs.{needs}
-use mathlib.Core.Path.{_≡_, sym, ap, _∙_}
-use mathlib.Core.List.{List}
-use Prim.Native.Nat.{ℕ, _+_}
-use lib.IntN.{ℤ}
+use Rattle.whole.proofs.Basics.{_≡_, _∙_, sym, ap, List, ℕ, _+_, ℤ, needs}
 use Rattle.stored.specs.Words.{words}
 use Rattle.admission.specs.Admission.{Judged}
 use Rattle.admission.specs.declared.Admission.{Admission}

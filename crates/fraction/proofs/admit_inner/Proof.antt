@@ -1,12 +1,6 @@
 -- `fraction::admit_inner` meets its contract. The invariant: the whole answer is the answer from depth j on, what stands there is
 -- apart from 0, and every number from b_j on is a word; so where it admits, all are.
-use borrow.Author.Needs.{needs}
-use mathlib.Core.Path.{_≡_, sym, ap, ap₂, _∙_, subst}
-use mathlib.Core.List.{List}
-use Prim.Native.Nat.{ℕ, suc, _+_, _-_, _<_, _≤_}
-use native.Mathlib.Omega.{arith}
-use lib.IntN.{ℤ, natAbs}
-use mir.Syntax.{w32}
+use Rattle.whole.proofs.Basics.{_≡_, _∙_, sym, ap, ap₂, subst, List, ℕ, suc, _+_, _-_, _≤_, _<_, arith, ℤ, natAbs, w32, needs}
 use Rattle.whole.proofs.Held.{back, held, held-nat, given}
 use Rattle.word.specs.Words.{Word}
 use Rattle.stored.specs.Words.{words}

@@ -1,12 +1,5 @@
 -- `fraction::answer` meets its contract: the walk outward from b_k, with v1 and the other v's of the mode.
-use borrow.Author.Needs.{needs}
-use mathlib.Core.Path.{_≡_, sym, ap, ap₂, _∙_, subst}
-use mathlib.Core.List.{List}
-use Prim.Native.Nat.{ℕ, _+_, _<_}
-use native.Mathlib.Omega.{arith}
-use lib.IntN.{ℤ}
-use lib.ListN.{length}
-use mir.Syntax.{w32}
+use Rattle.whole.proofs.Basics.{_≡_, _∙_, sym, ap, ap₂, subst, List, ℕ, _+_, _<_, arith, length, ℤ, w32, needs}
 use Rattle.whole.proofs.Fit.{fit-abs}
 use Rattle.whole.proofs.Held.{back, held, arg, known, given}
 use Rattle.word.specs.Words.{Word, Scale, productOf}

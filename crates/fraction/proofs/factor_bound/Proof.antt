@@ -1,5 +1,5 @@
 -- `fraction::factor_bound` meets its contract.
-use mathlib.Core.Path.{sym}
+use Rattle.whole.proofs.Basics.{sym}
 use Rattle.fraction.proofs.WalkLaws.{at-first, at-rest}
 use Rattle.fraction.proofs.factor_bound.Statement.{statement}
 use Rattle.fraction.proofs.factor_bound.Tie as tie

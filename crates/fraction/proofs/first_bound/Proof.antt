@@ -1,5 +1,5 @@
 -- `fraction::first_bound` meets its contract.
-use mathlib.Core.Path.{sym}
+use Rattle.whole.proofs.Basics.{sym}
 use Rattle.fraction.proofs.WalkLaws.{first-square, first-itself}
 use Rattle.fraction.proofs.first_bound.Statement.{statement}
 use Rattle.fraction.proofs.first_bound.Tie as tie

@@ -1,5 +1,5 @@
 -- `fraction::first_of` meets its contract.
-use mathlib.Core.Path.{sym, _∙_}
+use Rattle.whole.proofs.Basics.{_∙_, sym}
 use Rattle.whole.proofs.Held.{held, arg}
 use Rattle.fraction.proofs.WalkLaws.{first-square, first-itself}
 use Rattle.fraction.proofs.first_of.Statement.{statement}

@@ -1,8 +1,5 @@
 -- `fraction::next` meets its contract: `StepReady` says that each number on the way is a word.
-use mathlib.Core.Path.{sym, ap₂, _∙_, subst}
-use native.Mathlib.Omega.{arith}
-use lib.IntN.{_+ℤ_}
-use mir.Syntax.{w32, w64}
+use Rattle.whole.proofs.Basics.{_∙_, sym, ap₂, subst, arith, _+ℤ_, w32, w64}
 use Rattle.whole.proofs.Fit.{fit-abs}
 use Rattle.whole.proofs.Held.{back, Held, fits-code, held, arg, known, cast, wider, plus}
 use Rattle.word.specs.Words.{Word, NotZero, productOf, quotientOf}

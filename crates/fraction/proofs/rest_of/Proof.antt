@@ -1,7 +1,5 @@
 -- `fraction::rest_of` meets its contract.
-use mathlib.Core.Path.{sym, ap₂, _∙_, subst}
-use native.Mathlib.Omega.{arith}
-use mir.Syntax.{w32, w64}
+use Rattle.whole.proofs.Basics.{_∙_, sym, ap₂, subst, arith, w32, w64}
 use Rattle.whole.proofs.Fit.{fit-abs}
 use Rattle.whole.proofs.Held.{back, Held, fits-code, held, arg, known, cast}
 use Rattle.word.specs.Words.{Word, productOf}

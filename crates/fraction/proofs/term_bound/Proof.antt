@@ -1,10 +1,6 @@
 -- `fraction::term_bound` meets its contract: an a that is no word ends it, and each further way out is a step of
 -- proofs/AdmissionSteps.antt.
-use borrow.Author.Needs.{needs}
-use mathlib.Core.Path.{_≡_, refl, sym, ap, _∙_}
-use Prim.Native.Nat.{ℕ, _-_}
-use native.Mathlib.Omega.{arith}
-use lib.IntN.{natAbs}
+use Rattle.whole.proofs.Basics.{_≡_, _∙_, refl, sym, ap, ℕ, _-_, arith, natAbs, needs}
 use Rattle.whole.proofs.Held.{held-nat, arg}
 use Rattle.word.specs.Words.{boundProduct}
 use Rattle.fraction.specs.Admission.{gBound, termBound, judgedTerm}

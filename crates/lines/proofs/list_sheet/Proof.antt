@@ -1,9 +1,5 @@
 -- `list_sheet` meets its contract: by the input's length, then by the reader's answer; each text is put at the front, and has room there.
-use borrow.Author.Needs.{needs}
-use mathlib.Core.Path.{_≡_, _∙_, sym}
-use native.Mathlib.Omega.{arith}
-use lib.ListN.{length}
-use denote.Ref.{now}
+use Rattle.whole.proofs.Basics.{_≡_, _∙_, sym, arith, length, now, needs}
 use Rattle.text.proofs.TextLaws.{behind, front}
 use Rattle.lines.proofs.LineLaws.{shape-of-count, too-long, not-too-long}
 use Rattle.lines.proofs.list_sheet.Statement.{statement}

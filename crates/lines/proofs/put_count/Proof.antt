@@ -1,8 +1,5 @@
 -- `put_count` meets its contract: three texts one behind the other; a count has at most five digits.
-use borrow.Author.Needs.{needs}
-use Prim.Native.Nat.{_≤_, _<_}
-use native.Mathlib.Omega.{arith}
-use lib.ListN.{length}
+use Rattle.whole.proofs.Basics.{_≤_, _<_, arith, length, needs}
 use Rattle.text.specs.Text.{decimal}
 use Rattle.text.proofs.TextLaws.{behind, short}
 use Rattle.lines.specs.Listing.{countLine}

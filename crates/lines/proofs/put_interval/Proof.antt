@@ -1,7 +1,5 @@
 -- `put_interval` meets its contract: five texts one behind the other, at most 25 characters in all.
-use borrow.Author.Needs.{needs}
-use native.Mathlib.Omega.{arith}
-use mir.Facts.{toZ-ofZ}
+use Rattle.whole.proofs.Basics.{arith, toZ-ofZ, needs}
 use Rattle.text.proofs.TextLaws.{behind}
 use Rattle.lines.proofs.put_interval.Statement.{statement}
 use Rattle.lines.proofs.put_interval.Tie as tie

@@ -1,6 +1,5 @@
 -- `put_kind` meets its contract: kind by kind, the name's own text.
-use borrow.Author.Needs.{needs}
-use native.Mathlib.Omega.{arith}
+use Rattle.whole.proofs.Basics.{arith, needs}
 use Rattle.text.proofs.TextLaws.{begin, done}
 use Rattle.lines.proofs.put_kind.Statement.{statement}
 use Rattle.lines.proofs.put_kind.Tie as tie

@@ -1,11 +1,5 @@
 -- `put_line` meets its contract: number, kind name and interval one behind the other, each by the record's own field.
-use borrow.Author.Needs.{needs}
-use Prim.Native.Nat.{_≤_, _<_}
-use native.Mathlib.Omega.{arith}
-use lib.ListN.{length}
-use mir.Syntax.{w32}
-use mir.Val.{SFits}
-use mir.Facts.{toZ-ofZ}
+use Rattle.whole.proofs.Basics.{_≤_, _<_, arith, length, w32, SFits, toZ-ofZ, needs}
 use Rattle.layout.specs.Fields.{formulaOf, shapeOf}
 use Rattle.text.specs.Text.{decimal}
 use Rattle.text.proofs.TextLaws.{behind, short}

@@ -1,10 +1,5 @@
 -- `put_lines` meets its contract: at each turn the formula records that are left stand ahead, and the lines that are left are theirs.
-use borrow.Author.Needs.{needs}
-use mathlib.Core.Path.{_≡_, _∙_, refl, ap}
-use Prim.Native.Nat.{_+_, _*_, _≤_}
-use native.Mathlib.Omega.{arith}
-use lib.ListN.{length}
-use denote.Ref.{now}
+use Rattle.whole.proofs.Basics.{_≡_, _∙_, refl, ap, _+_, _*_, _≤_, arith, length, now, needs}
 use Rattle.stored.specs.Numbers.{number4}
 use Rattle.layout.proofs.Cut.{length-bytesAt}
 use Rattle.sheet.specs.Reader.{FormulaStands}

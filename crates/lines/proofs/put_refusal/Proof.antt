@@ -1,8 +1,5 @@
 -- `put_refusal` meets its contract: five texts one behind the other; a number has at most 3 digits, a place at most 20.
-use borrow.Author.Needs.{needs}
-use Prim.Native.Nat.{_≤_, _<_}
-use native.Mathlib.Omega.{arith}
-use lib.ListN.{length}
+use Rattle.whole.proofs.Basics.{_≤_, _<_, arith, length, needs}
 use Rattle.text.specs.Text.{decimal}
 use Rattle.text.proofs.TextLaws.{behind, short}
 use Rattle.lines.specs.Listing.{refusalLine}

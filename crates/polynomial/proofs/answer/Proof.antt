@@ -1,14 +1,5 @@
 -- `polynomial::answer` meets its contract. The invariant: `running` has the bits of Horner's word over the coefficients from `i` on. A signed local is its bits in an invariant, so `x` there is read by `toZ`.
-use borrow.Author.Needs.{needs}
-use mathlib.Core.Path.{_≡_, sym, ap, ap₂, _∙_, subst}
-use mathlib.Core.List.{List}
-use Prim.Native.Nat.{ℕ, suc, _+_, _*_, _-_, _<_}
-use native.Mathlib.Omega.{arith}
-use lib.IntN.{ℤ, pos, _+ℤ_}
-use lib.ListN.{length, getD, drop}
-use mir.Syntax.{w32, w64}
-use mir.Val.{SFits, ofZ, toZ}
-use mir.Facts.{toZ-ofZ}
+use Rattle.whole.proofs.Basics.{_≡_, _∙_, sym, ap, ap₂, subst, List, ℕ, suc, _+_, _-_, _*_, _<_, arith, length, drop, getD, ℤ, pos, _+ℤ_, w32, w64, SFits, toZ, ofZ, toZ-ofZ, needs}
 use Rattle.whole.proofs.Fit.{fit-abs}
 use Rattle.whole.proofs.Held.{back, Held, fits-code, held, arg, known, cast, wider, plus}
 use Rattle.word.specs.Words.{Word, productOf}

@@ -1,13 +1,6 @@
 -- `polynomial::bound` meets its contract. The invariant: `low` is the bound of the coefficients from i on.
-use borrow.Author.Needs.{needs}
-use mathlib.Core.Path.{_≡_, sym, ap, ap₂, _∙_}
-use mathlib.Core.List.{List}
-use Prim.Native.Nat.{ℕ, _+_, _*_, _-_, _<_, _≤_}
+use Rattle.whole.proofs.Basics.{_≡_, _∙_, sym, ap, ap₂, List, ℕ, _+_, _-_, _*_, _≤_, _<_, arith, drop, getD, ℤ, pos, natAbs, w32, needs}
 use native.Mathlib.Nat.{mul-le-mul}
-use native.Mathlib.Omega.{arith}
-use lib.IntN.{ℤ, pos, natAbs}
-use lib.ListN.{getD, drop}
-use mir.Syntax.{w32}
 use Rattle.whole.proofs.Held.{held-nat, given}
 use Rattle.stored.specs.Words.{words}
 use Rattle.stored.proofs.WordsLaws.{length-words, word-at}

@@ -1,12 +1,5 @@
 -- `rational::admit` meets its contract: the bounds of the numerator and of the divisor's tail, then `admit_ratio`.
-use borrow.Author.Needs.{needs}
-use mathlib.Core.Path.{_≡_, sym, ap, _∙_}
-use mathlib.Core.List.{List}
-use Prim.Native.Nat.{ℕ, _+_, _*_, _-_, _<_}
-use native.Mathlib.Omega.{arith}
-use lib.IntN.{ℤ, pos, natAbs}
-use lib.ListN.{length, getD, drop}
-use mir.Syntax.{w32}
+use Rattle.whole.proofs.Basics.{_≡_, _∙_, sym, ap, List, ℕ, _+_, _-_, _*_, _<_, arith, length, drop, getD, ℤ, pos, natAbs, w32, needs}
 use Rattle.whole.proofs.Held.{held-nat, given}
 use Rattle.stored.specs.Words.{words}
 use Rattle.stored.proofs.WordsLaws.{length-words, words-head, words-tail}

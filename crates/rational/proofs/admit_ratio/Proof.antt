@@ -1,8 +1,6 @@
 -- `rational::admit_ratio` meets its contract: each way out is a step of proofs/AdmissionSteps.antt.
-use borrow.Author.Needs.{needs}
-use Prim.Native.Nat.{_*_, _≤_}
+use Rattle.whole.proofs.Basics.{_*_, _≤_, arith, needs}
 use native.Mathlib.Nat.{mul-le-mul}
-use native.Mathlib.Omega.{arith}
 use Rattle.polynomial.proofs.BoundLaws.{bound-product-most}
 use Rattle.rational.proofs.AdmissionSteps.{sum-left, too-near, quotient-left, quotient-in}
 use Rattle.rational.proofs.admit_ratio.Statement.{statement}

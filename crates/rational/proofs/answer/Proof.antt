@@ -1,11 +1,5 @@
 -- `rational::answer` meets its contract: both polynomials are ready, and the quotient is a word.
-use borrow.Author.Needs.{needs}
-use mathlib.Core.Path.{sym, ap, ap₂, _∙_, subst}
-use mathlib.Core.List.{List}
-use Prim.Native.Nat.{ℕ, _+_, _*_}
-use native.Mathlib.Omega.{arith}
-use lib.IntN.{ℤ, natAbs}
-use mir.Syntax.{w32, w64}
+use Rattle.whole.proofs.Basics.{_∙_, sym, ap, ap₂, subst, List, ℕ, _+_, _*_, arith, ℤ, natAbs, w32, w64, needs}
 use Rattle.whole.proofs.Fit.{fit-abs}
 use Rattle.whole.proofs.Held.{back, Held, fits-code, held, arg, known, cast}
 use Rattle.word.specs.Words.{Word, NotZero, quotientOf}

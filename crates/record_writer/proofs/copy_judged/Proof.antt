@@ -1,8 +1,5 @@
 -- `record_writer::copy_judged` meets its contract: a fault, too little room, and the bytes copied.
-use borrow.Author.Needs.{needs}
-use mathlib.Core.Path.{_∙_, refl}
-use denote.Ref.{now}
-use borrow.Author.Tests.{lt-ltb, le-ltb}
+use Rattle.whole.proofs.Basics.{_∙_, refl, now, needs, lt-ltb, le-ltb}
 use Rattle.stored.proofs.StoreLaws.{sets-front}
 use Rattle.records.proofs.Chain.{halts, goes}
 use Rattle.record_writer.specs.Answers.{refusedBy}

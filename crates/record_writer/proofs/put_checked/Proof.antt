@@ -1,15 +1,7 @@
 -- `record_writer::put_checked` meets its contract: the scale's fault, the counts', and what the reader's check makes of the record.
-use borrow.Author.Needs.{needs}
-use mathlib.Core.Path.{_≡_, _∙_, refl, sym, ap}
-use mathlib.Core.List.{List}
-use Prim.Native.Nat.{ℕ}
-use native.Mathlib.Omega.{arith}
-use lib.ListN.{length, getD, take, replicate}
+use Rattle.whole.proofs.Basics.{_≡_, _∙_, refl, sym, ap, List, ℕ, arith, length, take, getD, pos, w32, SFits, now, needs}
+use lib.ListN.{replicate}
 use lib.Seq.{sets, length-sets, length-take-le}
-use lib.IntN.{pos}
-use denote.Ref.{now}
-use mir.Syntax.{w32}
-use mir.Val.{SFits}
 use Rattle.formula.specs.declared.Formula.{Formula}
 use Rattle.table.specs.declared.Class.the-variants.{FormulaRecord}
 use Rattle.table.specs.Table.{rowOf}

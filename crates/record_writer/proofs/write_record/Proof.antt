@@ -1,9 +1,5 @@
 -- `record_writer::write_record` meets its contract, kind by kind: each has a formula's row, and any other code is that of no formula.
-use borrow.Author.Needs.{needs}
-use mathlib.Core.Path.{_≡_, _∙_, refl, sym}
-use Prim.Native.Nat.{ℕ}
-use lib.ListN.{length}
-use denote.Ref.{now}
+use Rattle.whole.proofs.Basics.{_≡_, _∙_, refl, sym, ℕ, length, now, needs}
 use Rattle.table.specs.Table.{rows, firstRow, rowOf}
 use Rattle.table.specs.Codes.{codeFor}
 use Rattle.records.proofs.FormulaLaws.{no-formula}

@@ -1,7 +1,6 @@
 -- `records::frame_fault` meets its contract: a way out for each test of the definition.
-use borrow.Author.Tests.{le-ltb, lt-ltb}
+use Rattle.whole.proofs.Basics.{needs, lt-ltb, le-ltb}
 use Rattle.records.specs.Faults.{frameFault}
-use borrow.Author.Needs.{needs}
 use Rattle.records.proofs.frame_fault.Statement.{statement}
 use Rattle.records.proofs.frame_fault.Tie as tie
 

@@ -1,5 +1,5 @@
 -- `records::scale_fault` meets its contract: a way out for each test of the definition.
-use borrow.Author.Tests.{le-ltb, lt-ltb}
+use Rattle.whole.proofs.Basics.{lt-ltb, le-ltb}
 use Rattle.records.specs.Faults.{scaleFault}
 use Rattle.records.proofs.scale_fault.Statement.{statement}
 use Rattle.records.proofs.scale_fault.Tie as tie

@@ -1,8 +1,5 @@
 -- `added` meets its contract: the heads of the start's and the end's rows.
-use borrow.Author.Needs.{needs}
-use mathlib.Core.Path.{_≡_, _∙_, refl}
-use native.Mathlib.Omega.{arith}
-use Prim.Native.Nat.{_+_}
+use Rattle.whole.proofs.Basics.{_≡_, _∙_, refl, _+_, arith, needs}
 use Rattle.table.specs.Codes.{startRow, endRow, the-start, the-end}
 use Rattle.sheet_writer.proofs.SheetLaws.{start-head, end-head}
 use Rattle.sheet_writer.proofs.added.Statement.{statement}

@@ -1,12 +1,6 @@
 -- `put_sheet` meets its contract: start, run and end are put one behind the other.
-use borrow.Author.Needs.{needs}
-use mathlib.Core.Path.{_≡_, _∙_, ap}
-use mathlib.Core.List.{List, _++_, append-assoc}
-use Prim.Native.Nat.{ℕ, _+_}
-use native.Mathlib.Omega.{arith}
-use lib.ListN.{length, length-append}
+use Rattle.whole.proofs.Basics.{_≡_, _∙_, ap, List, _++_, append-assoc, ℕ, _+_, arith, length, length-append, now, needs}
 use lib.Seq.{sets, length-sets}
-use denote.Ref.{now}
 use Rattle.stored.proofs.StoreLaws.{next}
 use Rattle.table.specs.Codes.{startRow, endRow, the-start, the-end}
 use Rattle.table.specs.declared.Row.{Row}

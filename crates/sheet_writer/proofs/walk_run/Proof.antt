@@ -1,7 +1,5 @@
 -- `walk_run` meets its contract: the walk from behind the start's row.
-use borrow.Author.Needs.{needs}
-use mathlib.Core.Path.{_∙_, ap}
-use native.Mathlib.Omega.{arith}
+use Rattle.whole.proofs.Basics.{_∙_, ap, arith, needs}
 use Rattle.table.specs.Codes.{the-start}
 use Rattle.table.specs.declared.Row.{Row}
 use Rattle.sheet_writer.proofs.SheetLaws.{start-head}

@@ -1,7 +1,5 @@
 -- `write_sheet` meets its contract: first the scale, then an empty run, then what the run's walk says.
-use borrow.Author.Needs.{needs}
-use mathlib.Core.Path.{_∙_, refl, sym}
-use borrow.Author.Tests.{eq-eqb, ne-eqb}
+use Rattle.whole.proofs.Basics.{_∙_, refl, sym, needs, eq-eqb, ne-eqb}
 use Rattle.records.proofs.Chain.{halts, goes}
 use Rattle.records.proofs.ScaleLaws.{good-scale}
 use Rattle.record_writer.specs.Answers.{refusedBy}

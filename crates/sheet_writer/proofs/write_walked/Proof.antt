@@ -1,9 +1,5 @@
 -- `write_walked` meets its contract: the two answers to a run that was walked over, and the room for it.
-use borrow.Author.Needs.{needs}
-use mathlib.Core.Path.{_∙_, refl}
-use native.Mathlib.Omega.{arith}
-use borrow.Author.Tests.{lt-ltb, le-ltb}
-use denote.Ref.{now}
+use Rattle.whole.proofs.Basics.{_∙_, refl, arith, now, needs, lt-ltb, le-ltb}
 use Rattle.stored.proofs.StoreLaws.{sets-front}
 use Rattle.sheet_writer.specs.SheetWriter.{sheetBytes}
 use Rattle.sheet_writer.proofs.SheetLaws.{length-sheet}

@@ -1,5 +1,5 @@
 -- `stored::get2` meets its contract: two bytes, the lower first.
-use borrow.Author.Needs.{needs}
+use Rattle.whole.proofs.Basics.{needs}
 use Rattle.stored.specs.Numbers.{number2}
 use Rattle.stored.proofs.get2.Statement.{statement}
 use Rattle.stored.proofs.get2.Tie as tie

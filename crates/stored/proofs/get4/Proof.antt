@@ -1,5 +1,5 @@
 -- `stored::get4` meets its contract: four bytes, the lowest first.
-use borrow.Author.Needs.{needs}
+use Rattle.whole.proofs.Basics.{needs}
 use Rattle.stored.specs.Numbers.{number4}
 use Rattle.stored.proofs.get4.Statement.{statement}
 use Rattle.stored.proofs.get4.Tie as tie

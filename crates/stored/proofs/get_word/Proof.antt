@@ -1,8 +1,5 @@
 -- `stored::get_word` meets its contract: the signed number of four bytes.
-use borrow.Author.Needs.{needs}
-use mathlib.Core.Path.{_∙_, ap}
-use mir.Syntax.{w32}
-use mir.Val.{toZ}
+use Rattle.whole.proofs.Basics.{_∙_, ap, w32, toZ, needs}
 use Rattle.stored.proofs.Back.{back}
 use Rattle.stored.proofs.get_word.Statement.{statement}
 use Rattle.stored.proofs.get_word.Tie as tie

@@ -1,6 +1,5 @@
 -- `stored::pattern_of` meets its contract: the number that a signed one has as its pattern.
-use native.Mathlib.Omega.{arith}
-use mir.Facts.{toZ-ofZ}
+use Rattle.whole.proofs.Basics.{arith, toZ-ofZ}
 use Rattle.stored.proofs.Back.{high, low}
 use Rattle.stored.proofs.pattern_of.Statement.{statement}
 use Rattle.stored.proofs.pattern_of.Tie as tie

@@ -1,6 +1,5 @@
 -- `stored::put4` meets its contract: four stores, one behind the other.
-use borrow.Author.Needs.{needs}
-use native.Mathlib.Omega.{arith}
+use Rattle.whole.proofs.Basics.{arith, needs}
 use native.Mathlib.Numerals.{towards-suc}
 use lib.ListN.{length-set}
 use Rattle.stored.specs.Numbers.{bytes4}

@@ -1,11 +1,7 @@
 -- `stored::put_bytes` meets its contract. The invariant: the bytes copied so far stand from the place on.
-use borrow.Author.Needs.{needs}
-use mathlib.Core.Path.{_≡_, refl}
-use Prim.Native.Nat.{_≤_, _-_}
-use native.Mathlib.Omega.{arith}
-use lib.ListN.{length, take, length-set}
+use Rattle.whole.proofs.Basics.{_≡_, refl, _-_, _≤_, arith, length, take, now, needs}
+use lib.ListN.{length-set}
 use lib.Seq.{sets, take-all}
-use denote.Ref.{now}
 use Rattle.stored.proofs.StoreLaws.{turn}
 use Rattle.stored.proofs.put_bytes.Statement.{statement}
 use Rattle.stored.proofs.put_bytes.Tie as tie

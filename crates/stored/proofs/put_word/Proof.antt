@@ -1,6 +1,5 @@
 -- `stored::put_word` meets its contract: the pattern, put as four bytes.
-use borrow.Author.Needs.{needs}
-use mir.Facts.{toZ-ofZ}
+use Rattle.whole.proofs.Basics.{toZ-ofZ, needs}
 use Rattle.stored.proofs.put_word.Statement.{statement}
 use Rattle.stored.proofs.put_word.Tie as tie
 

@@ -1,10 +1,5 @@
 -- `stored::signed` meets its contract: a pattern above the half stands for a negative number.
-use borrow.Author.Needs.{needs}
-use mathlib.Core.Path.{_≡_, ap}
-use Prim.Native.Nat.{_-_}
-use native.Mathlib.Omega.{arith}
-use mir.Syntax.{w32}
-use mir.Val.{toZ}
+use Rattle.whole.proofs.Basics.{_≡_, ap, _-_, arith, w32, toZ, needs}
 use Rattle.stored.proofs.signed.Statement.{statement}
 use Rattle.stored.proofs.signed.Tie as tie
 

@@ -1,5 +1,5 @@
 -- `table::all_lines` meets its contract: the constant has the definition's rows, number for number.
-use mathlib.Core.Path.{refl}
+use Rattle.whole.proofs.Basics.{refl}
 use Rattle.table.specs.Table.{rows}
 use Rattle.table.proofs.all_lines.Statement.{statement}
 use Rattle.table.proofs.all_lines.Tie as tie

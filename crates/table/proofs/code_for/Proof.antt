@@ -1,5 +1,5 @@
 -- `table::code_for` meets its contract: the code's name in each arm is what the table has for the kind.
-use borrow.Author.Needs.{needs}
+use Rattle.whole.proofs.Basics.{needs}
 use Rattle.table.specs.Table.{rows, firstRow}
 use Rattle.table.specs.Codes.{codeFor}
 use Rattle.table.proofs.code_for.Statement.{statement}

@@ -1,7 +1,6 @@
 -- `table::line_of` meets its contract: an arm for each row, and one for a code that no row has.
-use borrow.Author.Needs.{needs}
+use Rattle.whole.proofs.Basics.{refl, ap, needs}
 use lib.Dec.{lit<}
-use mathlib.Core.Path.{refl, ap}
 use Rattle.table.specs.Table.{rows, firstRow, rowOf}
 use Rattle.table.specs.Lines.{line}
 use Rattle.table.proofs.Search.{arm, missed}

@@ -1,7 +1,5 @@
 -- `table::pieces_by` meets its contract: what it adds up stays within the sum, which is at most 32 by the table's rule.
-use mathlib.Core.Path.{refl}
-use Prim.Native.Nat.{_+_, _*_, _≤_}
-use native.Mathlib.Omega.{arith}
+use Rattle.whole.proofs.Basics.{refl, _+_, _*_, _≤_, arith}
 use Rattle.table.specs.Table.{piecesBy}
 use Rattle.table.proofs.Rule.{few}
 use Rattle.table.proofs.pieces_by.Statement.{statement}

@@ -1,7 +1,5 @@
 -- `table::row_of` meets its contract: the row is made of the line that was found, as the line is of the row.
-use borrow.Author.Needs.{needs}
-use mathlib.Core.Path.{ap, _∙_}
-use lib.ListN.{getD}
+use Rattle.whole.proofs.Basics.{_∙_, ap, getD, needs}
 use Rattle.table.specs.Table.{row}
 use Rattle.table.specs.Lines.{fieldFrom}
 use Rattle.table.specs.declared.Field.{Field}

@@ -1,7 +1,5 @@
 -- The digits in front of the last one are put first; the number falls.
-use borrow.Author.Needs.{needs}
-use Prim.Native.Nat.{ℕ, _<_}
-use native.Mathlib.Omega.{arith}
+use Rattle.whole.proofs.Basics.{ℕ, _<_, arith, needs}
 use lib.ListN.{length-set}
 use borrow.Fn.Kinds.{In}
 use borrow.Fn.PlainCycle.{Measures, is, falls, and}

@@ -1,11 +1,5 @@
 -- `text::put_signed` meets its contract: the sign, then the digits of the size.
-use borrow.Author.Needs.{needs}
-use mathlib.Core.Path.{_≡_}
-use Prim.Native.Nat.{_≤_, _<_}
-use native.Mathlib.Omega.{arith}
-use lib.IntN.{natAbs}
-use lib.ListN.{length}
-use mir.Facts.{toZ-ofZ}
+use Rattle.whole.proofs.Basics.{_≡_, _≤_, _<_, arith, length, natAbs, toZ-ofZ, needs}
 use Rattle.text.specs.Text.{decimal}
 use Rattle.text.proofs.TextLaws.{behind, short, negative, not-negative}
 use Rattle.text.proofs.put_signed.Statement.{statement}

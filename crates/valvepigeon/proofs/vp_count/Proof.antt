@@ -1,6 +1,5 @@
 -- `valvepigeon::vp_count` meets its contract.
-use borrow.Author.Needs.{needs}
-use mathlib.Core.Path.{ap, _∙_}
+use Rattle.whole.proofs.Basics.{_∙_, ap, needs}
 use Rattle.c_answers.specs.Answers.{counted}
 use Rattle.valvepigeon.proofs.vp_count.Statement.{statement}
 use Rattle.valvepigeon.proofs.vp_count.Tie as tie

@@ -1,6 +1,5 @@
 -- `valvepigeon::vp_evaluate` meets its contract.
-use borrow.Author.Needs.{needs}
-use mathlib.Core.Path.{ap, _∙_}
+use Rattle.whole.proofs.Basics.{_∙_, ap, needs}
 use Rattle.whole.proofs.Held.{held, arg}
 use Rattle.board.specs.Board.{evaluated}
 use Rattle.c_answers.specs.Answers.{worked}

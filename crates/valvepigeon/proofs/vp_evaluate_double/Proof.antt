@@ -1,6 +1,5 @@
 -- `valvepigeon::vp_evaluate_double` meets its contract.
-use borrow.Author.Needs.{needs}
-use mathlib.Core.Path.{sym, subst}
+use Rattle.whole.proofs.Basics.{sym, subst, needs}
 use Rattle.board.specs.Board.{evaluatedDouble}
 use Rattle.c_answers.specs.Answers.{ShownBy}
 use Rattle.c_answers.specs.declared.answers.ShownValue.{ShownValue}

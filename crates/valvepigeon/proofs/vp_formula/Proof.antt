@@ -1,6 +1,5 @@
 -- `valvepigeon::vp_formula` meets its contract.
-use borrow.Author.Needs.{needs}
-use mathlib.Core.Path.{ap, _∙_}
+use Rattle.whole.proofs.Basics.{_∙_, ap, needs}
 use Rattle.c_answers.specs.Answers.{found}
 use Rattle.valvepigeon.proofs.vp_formula.Statement.{statement}
 use Rattle.valvepigeon.proofs.vp_formula.Tie as tie

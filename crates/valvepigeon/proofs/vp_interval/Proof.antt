@@ -1,6 +1,5 @@
 -- `valvepigeon::vp_interval` meets its contract.
-use borrow.Author.Needs.{needs}
-use mathlib.Core.Path.{sym, subst}
+use Rattle.whole.proofs.Basics.{sym, subst, needs}
 use Rattle.sheet.specs.Reader.{formulaRead}
 use Rattle.c_answers.specs.Answers.{SpannedBy}
 use Rattle.c_answers.specs.declared.answers.IntervalEnds.{IntervalEnds}

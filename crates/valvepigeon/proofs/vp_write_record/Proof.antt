@@ -1,8 +1,5 @@
 -- `valvepigeon::vp_write_record` meets its contract.
-use borrow.Author.Needs.{needs}
-use mathlib.Core.Path.{_≡_, ap, ap₂, _∙_}
-use lib.ListN.{length}
-use denote.Ref.{now}
+use Rattle.whole.proofs.Basics.{_≡_, _∙_, ap, ap₂, length, now, needs}
 use Rattle.formula.specs.declared.Formula.{Formula}
 use Rattle.record_writer.specs.Answers.{bufferAfter}
 use Rattle.record_writer.specs.RecordWriter.{recordWriting, bytesOf}

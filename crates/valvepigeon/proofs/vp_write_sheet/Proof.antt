@@ -1,7 +1,5 @@
 -- `valvepigeon::vp_write_sheet` meets its contract.
-use borrow.Author.Needs.{needs}
-use mathlib.Core.Path.{ap, _∙_}
-use denote.Ref.{now}
+use Rattle.whole.proofs.Basics.{_∙_, ap, now, needs}
 use Rattle.record_writer.specs.Answers.{bufferAfter}
 use Rattle.record_writer.specs.declared.answers.Writing.{Writing}
 use Rattle.sheet_writer.specs.SheetWriter.{sheetOf}

@@ -1,8 +1,5 @@
 -- `walking::after_formula` meets its contract, field by field.
-use borrow.Author.Needs.{needs}
-use Prim.Native.Nat.{_+_}
-use denote.Ref.{now}
-use lib.ListN.{length}
+use Rattle.whole.proofs.Basics.{_+_, length, now, needs}
 use Rattle.walking.specs.Walking.{walk}
 use Rattle.walking.proofs.after_formula.Statement.{statement}
 use Rattle.walking.proofs.after_formula.Tie as tie

@@ -1,7 +1,5 @@
 -- `walking::after_start` meets its contract, field by field.
-use borrow.Author.Needs.{needs}
-use denote.Ref.{now}
-use lib.ListN.{length}
+use Rattle.whole.proofs.Basics.{length, now, needs}
 use Rattle.walking.specs.Walking.{walk}
 use Rattle.walking.proofs.after_start.Statement.{statement}
 use Rattle.walking.proofs.after_start.Tie as tie

@@ -1,5 +1,5 @@
 -- `walking::begin` meets its contract, field by field.
-use borrow.Author.Needs.{needs}
+use Rattle.whole.proofs.Basics.{needs}
 use Rattle.walking.specs.Walking.{walk}
 use Rattle.walking.proofs.begin.Statement.{statement}
 use Rattle.walking.proofs.begin.Tie as tie

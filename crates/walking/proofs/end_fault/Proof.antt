@@ -1,6 +1,5 @@
 -- `walking::end_fault` meets its contract: the place in a sheet, none in a run, then its own faults.
-use borrow.Author.Needs.{needs}
-use borrow.Author.Tests.{eq-eqb, ne-eqb}
+use Rattle.whole.proofs.Basics.{needs, eq-eqb, ne-eqb}
 use Rattle.walking.proofs.end_fault.Statement.{statement}
 use Rattle.walking.proofs.end_fault.Tie as tie
 

@@ -1,7 +1,5 @@
 -- `walking::ending` meets its contract: a way out for each test of the definition.
-use borrow.Author.Needs.{needs}
-use mathlib.Core.Path.{_∙_}
-use borrow.Author.Tests.{le-ltb, lt-ltb}
+use Rattle.whole.proofs.Basics.{_∙_, needs, lt-ltb, le-ltb}
 use Rattle.walking.specs.Walking.{ending}
 use Rattle.walking.proofs.ending.Statement.{statement}
 use Rattle.walking.proofs.ending.Tie as tie

@@ -1,10 +1,5 @@
 -- `walking::fault_at` meets its contract: the frame, then the record's own faults.
-use borrow.Author.Needs.{needs}
-use mathlib.Core.Path.{_∙_, sym, ap}
-use Prim.Native.Nat.{_-_}
-use native.Mathlib.Omega.{arith}
-use denote.Ref.{now}
-use lib.ListN.{length}
+use Rattle.whole.proofs.Basics.{_∙_, sym, ap, _-_, arith, length, now, needs}
 use Rattle.layout.proofs.Cut.{length-bytesAt}
 use Rattle.records.proofs.Chain.{stop, pass}
 use Rattle.records.proofs.Frames.{Framed, framed, reaches}

@@ -1,5 +1,5 @@
 -- `walking::formula_fault` meets its contract: the place, then its own faults.
-use borrow.Author.Tests.{eq-eqb, ne-eqb}
+use Rattle.whole.proofs.Basics.{eq-eqb, ne-eqb}
 use Rattle.walking.proofs.formula_fault.Statement.{statement}
 use Rattle.walking.proofs.formula_fault.Tie as tie
 

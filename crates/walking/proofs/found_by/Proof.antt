@@ -1,5 +1,5 @@
 -- `walking::found_by` meets its contract: a way out for each test of the definition.
-use borrow.Author.Tests.{eq-eqb, ne-eqb}
+use Rattle.whole.proofs.Basics.{eq-eqb, ne-eqb}
 use Rattle.walking.specs.Walking.{foundBy}
 use Rattle.walking.proofs.found_by.Statement.{statement}
 use Rattle.walking.proofs.found_by.Tie as tie

@@ -1,8 +1,5 @@
 -- `walking::record_fault` meets its contract: an arm for a start, one for an end, and one for the others.
-use borrow.Author.Needs.{needs}
-use mathlib.Core.Path.{_≡_, _∙_, sym}
-use Prim.Native.Nat.{ℕ}
-use denote.Ref.{now}
+use Rattle.whole.proofs.Basics.{_≡_, _∙_, sym, ℕ, now, needs}
 use Rattle.layout.specs.Fields.{codeOf}
 use Rattle.walking.proofs.Classes.{at-start, at-end, at-other}
 use Rattle.walking.proofs.record_fault.Statement.{statement}

@@ -1,6 +1,5 @@
 -- `walking::room_for` meets its contract, at 0 and above it.
-use mathlib.Core.Path.{_≡_, refl, sym, ap}
-use Prim.Native.Nat.{ℕ, zero, suc}
+use Rattle.whole.proofs.Basics.{_≡_, refl, sym, ap, ℕ, suc, zero}
 use Rattle.walking.specs.Walking.{roomFor}
 use Rattle.walking.proofs.room_for.Statement.{statement}
 use Rattle.walking.proofs.room_for.Tie as tie

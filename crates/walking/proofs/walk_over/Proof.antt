@@ -1,14 +1,6 @@
 -- `walking::walk_over` meets its contract. The invariant is `Going`: the whole answer is that of the walk from here on.
-use borrow.Author.Needs.{needs}
-use mathlib.Core.Path.{_≡_, _∙_, refl, sym, ap}
-use mathlib.Core.List.{List}
+use Rattle.whole.proofs.Basics.{_≡_, _∙_, refl, sym, ap, false, List, ℕ, suc, zero, _+_, _-_, _≤_, _<_, arith, eqb, length, now, needs}
 use mathlib.Core.Logic.{⊎-elim}
-use mathlib.Core.Bool.{false}
-use Prim.Native.Nat.{ℕ, zero, suc, _+_, _-_, _<_, _≤_}
-use native.Mathlib.Omega.{arith}
-use denote.Ref.{now}
-use lib.Dec.{eqb}
-use lib.ListN.{length}
 use Rattle.table.specs.declared.Class.the-variants.{StartRecord, FormulaRecord, EndRecord}
 use Rattle.layout.specs.Fields.{codeOf, rowFor}
 use Rattle.records.proofs.Frames.{reaches}

@@ -1,12 +1,7 @@
 -- `word::bound_product` meets its contract: the product is not below 0, and the sum that rounds it up fits.
-use borrow.Author.Needs.{needs}
-use mathlib.Core.Path.{ap₂, _∙_}
-use Prim.Native.Nat.{ℕ, _+_, _*_, _-_, _/_, _^_, _≤_}
+use Rattle.whole.proofs.Basics.{_∙_, ap₂, ℕ, _+_, _-_, _*_, _/_, _^_, _≤_, arith, pos, _*ℤ_, w64, needs}
 use native.Mathlib.Nat.{mul-le-mul}
-use native.Mathlib.Omega.{arith}
-use lib.IntN.{pos, _*ℤ_}
 use lib.Pow.{pow-pos, pow-mono}
-use mir.Syntax.{w64}
 use Rattle.whole.proofs.Diff.{n}
 use Rattle.whole.proofs.Fit.{fit}
 use Rattle.whole.proofs.Held.{Held, held, held-nat, cast-nat, arg, known}

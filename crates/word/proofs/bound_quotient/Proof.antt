@@ -1,8 +1,5 @@
 -- `word::bound_quotient` meets its contract: the sum that rounds the quotient up fits.
-use borrow.Author.Needs.{needs}
-use mathlib.Core.Path.{ap, _∙_}
-use Prim.Native.Nat.{ℕ, _+_, _*_, _-_, _/_, _^_}
-use native.Mathlib.Omega.{arith}
+use Rattle.whole.proofs.Basics.{_∙_, ap, ℕ, _+_, _-_, _*_, _/_, _^_, arith, needs}
 use Rattle.word.proofs.RoundedLaws.{up-as}
 use Rattle.word.proofs.WordLaws.{scaled-most}
 use Rattle.word.proofs.bound_quotient.Statement.{statement}

@@ -1,9 +1,7 @@
 -- `word::heron` meets its contract. The invariant, of w = less + 1: its size leaves room for the sum, and the root is not above it.
-use mathlib.Core.Path.{_≡_, sym, subst}
-use Prim.Native.Nat.{ℕ, zero, suc, _+_, _-_, _*_, _/_, _^_, _<_, _≤_}
+use Rattle.whole.proofs.Basics.{_≡_, sym, subst, ℕ, suc, zero, _+_, _-_, _*_, _/_, _^_, _≤_, _<_, arith}
 use native.Mathlib.Nat.{div-add-mod, div-le-self}
 use native.Mathlib.Decide.{decLe}
-use native.Mathlib.Omega.{arith}
 use lib.Count.{leadingZeros, leading-le, leading-length}
 use lib.Pow.{pow-pos, pow-mono}
 use Rattle.word.proofs.RootLaws.{root-is}

@@ -1,9 +1,5 @@
 -- `word::lifted` meets its contract: the sum fits.
-use borrow.Author.Needs.{needs}
-use Prim.Native.Nat.{_^_}
-use native.Mathlib.Omega.{arith}
-use lib.IntN.{pos, _+ℤ_}
-use mir.Syntax.{w64}
+use Rattle.whole.proofs.Basics.{_^_, arith, pos, _+ℤ_, w64, needs}
 use Rattle.whole.proofs.Diff.{v, n, _⊕_, near-out}
 use Rattle.whole.proofs.Fit.{fit}
 use Rattle.whole.proofs.Held.{back, Held, fits-code, held, arg, plus}

@@ -1,9 +1,5 @@
 -- `word::magnitude` meets its contract: in 64 bits the negation of any i32 fits.
-use borrow.Author.Needs.{needs}
-use mathlib.Core.Path.{_∙_}
-use native.Mathlib.Omega.{arith}
-use lib.IntN.{pos, negℤ, _-ℤ_}
-use mir.Syntax.{w32, w64}
+use Rattle.whole.proofs.Basics.{_∙_, arith, pos, negℤ, _-ℤ_, w32, w64, needs}
 use Rattle.whole.proofs.Diff.{v, ⊖_, size}
 use Rattle.whole.proofs.Fit.{fit, fit-out}
 use Rattle.whole.proofs.Held.{back, Held, fits-code, held-nat, cast-nat, arg, lit, wider, negated, tested-lt, tested-ge}

@@ -1,11 +1,6 @@
 -- `word::nearest` meets its contract: the quotient towards zero, put right by the sign of its remainder, is the quotient rounded down, and that of what `lifted` gave is m / d rounded.
-use borrow.Author.Needs.{needs}
-use mathlib.Core.Path.{ap, _∙_}
-use Prim.Native.Nat.{ℕ, _+_, _^_, _<_, _≤_}
-use native.Mathlib.Omega.{arith}
-use lib.IntN.{ℤ, pos, natAbs, _+ℤ_, _-ℤ_}
+use Rattle.whole.proofs.Basics.{_∙_, ap, ℕ, _+_, _^_, _≤_, _<_, arith, ℤ, pos, natAbs, _+ℤ_, _-ℤ_, w64, needs}
 use lib.Signed.{quotZ, remZ}
-use mir.Syntax.{w64}
 use Rattle.whole.proofs.Diff.{v, n, _⊕_, _⊝_, near-out}
 use Rattle.whole.proofs.Fit.{fit, fit-abs}
 use Rattle.whole.proofs.Floor.{floor-right, floor-less, quot-abs}

@@ -1,9 +1,6 @@
 -- `word::power_of_two` meets its contract: the shifted 1 does not wrap.
-use borrow.Author.Needs.{needs}
-use mathlib.Core.Path.{_∙_}
-use Prim.Native.Nat.{_^_}
+use Rattle.whole.proofs.Basics.{_∙_, _^_, arith, needs}
 use native.Mathlib.Nat.{mod-eq-of-lt, one-mul}
-use native.Mathlib.Omega.{arith}
 use lib.Pow.{pow-lt}
 use Rattle.word.proofs.power_of_two.Statement.{statement}
 use Rattle.word.proofs.power_of_two.Tie as tie

@@ -1,10 +1,6 @@
 -- `word::product` meets its contract: a and b are read back from their bits, `times` multiplies them and `rounded_shift` divides.
-use mathlib.Core.Path.{_≡_, ap, ap₂, _∙_}
-use Prim.Native.Nat.{_^_}
+use Rattle.whole.proofs.Basics.{_≡_, _∙_, ap, ap₂, _^_, arith, ℤ, natAbs, _*ℤ_, w32, w64}
 use native.Mathlib.Nat.{mul-le-mul}
-use native.Mathlib.Omega.{arith}
-use lib.IntN.{ℤ, natAbs, _*ℤ_}
-use mir.Syntax.{w32, w64}
 use Rattle.whole.proofs.Held.{back, Held, fits-code, held, held-nat, arg, given, wider}
 use Rattle.whole.proofs.Order.{abs-mul}
 use Rattle.word.specs.Rounded.{rounded}

@@ -1,13 +1,6 @@
 -- `word::quotient` meets its contract: the divisor's sign goes to the scaled numerator, and `nearest` divides by the divisor's size.
-use borrow.Author.Needs.{needs}
-use mathlib.Core.Path.{_≡_, sym, ap, ap₂, _∙_}
-use mathlib.Core.Bool.{Bool}
-use Prim.Native.Nat.{_*_, _%_, _^_, _<_}
-use native.Mathlib.Omega.{arith}
-use lib.IntN.{ℤ, pos, natAbs, _*ℤ_}
+use Rattle.whole.proofs.Basics.{_≡_, _∙_, sym, ap, ap₂, Bool, _*_, _%_, _^_, _<_, arith, ℤ, pos, natAbs, _*ℤ_, w32, w64, toZ, ofZ, needs}
 use lib.Pow.{pow-pos}
-use mir.Syntax.{w32, w64}
-use mir.Val.{toZ, ofZ}
 use Rattle.whole.proofs.Fit.{fit-abs}
 use Rattle.whole.proofs.Held.{back, Held, fits-code, held, held-nat, arg, given, lit, wider, shl, tested-lt, tested-ge}
 use Rattle.whole.proofs.Order.{abs-mul}

@@ -1,10 +1,5 @@
 -- `word::root` meets its contract: the scaled word is short enough for `heron`, and its root is a word.
-use mathlib.Core.Path.{_≡_, ap, _∙_}
-use Prim.Native.Nat.{ℕ, _*_, _^_, _<_}
-use native.Mathlib.Omega.{arith}
-use lib.IntN.{pos, natAbs}
-use mir.Syntax.{w32}
-use mir.Val.{SFits}
+use Rattle.whole.proofs.Basics.{_≡_, _∙_, ap, ℕ, _*_, _^_, _<_, arith, pos, natAbs, w32, SFits}
 use Rattle.whole.proofs.Diff.{n}
 use Rattle.whole.proofs.Fit.{fit}
 use Rattle.whole.proofs.Held.{held, held-nat, cast-nat, arg}

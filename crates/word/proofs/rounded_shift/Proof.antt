@@ -1,13 +1,8 @@
 -- `word::rounded_shift` meets its contract: what `lifted` gave, shifted, is the fraction rounded.
-use borrow.Author.Needs.{needs}
-use mathlib.Core.Path.{_≡_, sym, ap, ap₂, _∙_}
-use Prim.Native.Nat.{ℕ, _-_, _*_, _^_, _<_}
+use Rattle.whole.proofs.Basics.{_≡_, _∙_, sym, ap, ap₂, ℕ, _-_, _*_, _^_, _<_, arith, ℤ, w64, needs}
 use native.Mathlib.Nat.{pow-succ'}
-use native.Mathlib.Omega.{arith}
-use lib.IntN.{ℤ}
 use lib.Pow.{pow-pos, pow-lt}
 use lib.Signed.{shrZ}
-use mir.Syntax.{w64}
 use Rattle.whole.proofs.Held.{held, held-nat, arg, given, shr}
 use Rattle.word.specs.Rounded.{lifted}
 use Rattle.word.proofs.RoundedLaws.{shifted-is}

@@ -1,7 +1,6 @@
 -- `word::scaled` meets its contract: no digit is lost, so that the shift multiplies.
-use borrow.Author.Needs.{needs}
+use Rattle.whole.proofs.Basics.{arith, needs}
 use native.Mathlib.Nat.{mod-eq-of-lt}
-use native.Mathlib.Omega.{arith}
 use Rattle.word.proofs.WordLaws.{scaled-most}
 use Rattle.word.proofs.scaled.Statement.{statement}
 use Rattle.word.proofs.scaled.Tie as tie

@@ -1,9 +1,6 @@
 -- `word::times` meets its contract: a product of 31 by 32 binary digits fits.
-use Prim.Native.Nat.{_≤_}
+use Rattle.whole.proofs.Basics.{_≤_, arith, natAbs, _*ℤ_, w64}
 use native.Mathlib.Nat.{mul-le-mul}
-use native.Mathlib.Omega.{arith}
-use lib.IntN.{natAbs, _*ℤ_}
-use mir.Syntax.{w64}
 use Rattle.whole.proofs.Fit.{fit-abs}
 use Rattle.whole.proofs.Held.{back, Held, fits-code, held, arg, times}
 use Rattle.whole.proofs.Order.{abs-mul}

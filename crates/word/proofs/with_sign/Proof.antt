@@ -1,9 +1,5 @@
 -- `word::with_sign` meets its contract: the negation fits, and each branch is a case of `withSign`.
-use mathlib.Core.Path.{sym, ap, _∙_}
-use mathlib.Core.Bool.{Bool}
-use native.Mathlib.Omega.{arith}
-use lib.IntN.{pos, negℤ, _-ℤ_}
-use mir.Syntax.{w64}
+use Rattle.whole.proofs.Basics.{_∙_, sym, ap, Bool, arith, pos, negℤ, _-ℤ_, w64}
 use Rattle.whole.proofs.Fit.{fit-abs}
 use Rattle.whole.proofs.Held.{back, Held, fits-code, held, arg, negated}
 use Rattle.whole.proofs.Order.{abs-neg}

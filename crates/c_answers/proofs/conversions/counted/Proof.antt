@@ -1,6 +1,5 @@
 -- `c_answers::conversions::counted` meets its contract.
-use borrow.Author.Needs.{needs}
-use mathlib.Core.Path.{sym, ap}
+use Rattle.whole.proofs.Basics.{sym, ap, needs}
 use Rattle.c_answers.specs.Answers.{counted}
 use Rattle.c_answers.proofs.conversions.counted.Statement.{statement}
 use Rattle.c_answers.proofs.conversions.counted.Tie as tie

@@ -1,6 +1,5 @@
 -- `c_answers::conversions::found` meets its contract.
-use borrow.Author.Needs.{needs}
-use mathlib.Core.Path.{sym, ap, _∙_}
+use Rattle.whole.proofs.Basics.{_∙_, sym, ap, needs}
 use Rattle.sheet.specs.declared.answers.Found.{Found}
 use Rattle.c_answers.specs.declared.answers.Fields.{Fields}
 use Rattle.c_answers.specs.Answers.{fieldsFound}

@@ -1,9 +1,5 @@
 -- `c_answers::conversions::worked` meets its contract.
-use borrow.Author.Needs.{needs}
-use mathlib.Core.Path.{sym, ap, _∙_}
-use lib.IntN.{ℤ}
-use mir.Syntax.{w32}
-use mir.Val.{SFits}
+use Rattle.whole.proofs.Basics.{_∙_, sym, ap, ℤ, w32, SFits, needs}
 use Rattle.whole.proofs.Held.{held, arg}
 use Rattle.board.specs.Board.{answered}
 use Rattle.c_answers.specs.Answers.{worked}

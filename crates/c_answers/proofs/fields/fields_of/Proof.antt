@@ -1,7 +1,5 @@
 -- `c_answers::fields::fields_of` meets its contract.
-use borrow.Author.Needs.{needs}
-use mir.Syntax.{w32}
-use mir.Val.{SFits}
+use Rattle.whole.proofs.Basics.{w32, SFits, needs}
 use Rattle.whole.proofs.Held.{held, arg}
 use Rattle.c_answers.specs.Fields.{fields}
 use Rattle.c_answers.proofs.fields.fields_of.Statement.{statement}

@@ -1,7 +1,5 @@
 -- `c_answers::fields::formula_by` meets its contract.
-use borrow.Author.Needs.{needs}
-use mir.Syntax.{w32}
-use mir.Val.{SFits}
+use Rattle.whole.proofs.Basics.{w32, SFits, needs}
 use Rattle.whole.proofs.Held.{held, arg}
 use Rattle.layout.specs.Fields.{shape, formula}
 use Rattle.c_answers.proofs.fields.formula_by.Statement.{statement}

@@ -1,5 +1,5 @@
 -- `c_answers::fields::no_fields` meets its contract.
-use mathlib.Core.Path.{refl}
+use Rattle.whole.proofs.Basics.{refl}
 use Rattle.layout.specs.Fields.{padded}
 use Rattle.c_answers.proofs.fields.no_fields.Statement.{statement}
 use Rattle.c_answers.proofs.fields.no_fields.Tie as tie

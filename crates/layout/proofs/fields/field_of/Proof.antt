@@ -1,6 +1,5 @@
 -- `layout::fields::field_of` meets its contract: where the field stands nowhere, and where it is read.
-use borrow.Author.Needs.{needs}
-use borrow.Author.Tests.{eq-eqb, ne-eqb}
+use Rattle.whole.proofs.Basics.{needs, eq-eqb, ne-eqb}
 use Rattle.layout.specs.Fields.{fieldOf}
 use Rattle.layout.proofs.fields.field_of.Statement.{statement}
 use Rattle.layout.proofs.fields.field_of.Tie as tie

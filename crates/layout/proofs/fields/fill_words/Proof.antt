@@ -1,8 +1,5 @@
 -- `layout::fields::fill_words` meets its contract. The invariant: the array holds the words read so far, and zeros behind them.
-use borrow.Author.Needs.{needs}
-use mathlib.Core.Path.{_≡_}
-use Prim.Native.Nat.{_≤_, _-_}
-use native.Mathlib.Omega.{arith}
+use Rattle.whole.proofs.Basics.{_≡_, _-_, _≤_, arith, needs}
 use Rattle.stored.specs.Words.{words}
 use Rattle.stored.proofs.Back.{back}
 use Rattle.layout.specs.Fields.{padded}

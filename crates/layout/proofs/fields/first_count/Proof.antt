@@ -1,6 +1,5 @@
 -- `layout::fields::first_count` meets its contract: where the field stands nowhere, and where it is read.
-use borrow.Author.Needs.{needs}
-use borrow.Author.Tests.{eq-eqb, ne-eqb}
+use Rattle.whole.proofs.Basics.{needs, eq-eqb, ne-eqb}
 use Rattle.layout.specs.Fields.{firstCount}
 use Rattle.layout.proofs.fields.first_count.Statement.{statement}
 use Rattle.layout.proofs.fields.first_count.Tie as tie

@@ -1,10 +1,5 @@
 -- `layout::fields::formula_of` meets its contract, field by field: the words are as many as the record's length leaves behind the head.
-use borrow.Author.Needs.{needs}
-use mathlib.Core.Path.{_≡_, refl}
-use Prim.Native.Nat.{_-_, _/_}
-use native.Mathlib.Omega.{arith}
-use denote.Ref.{now}
-use lib.ListN.{length}
+use Rattle.whole.proofs.Basics.{_≡_, refl, _-_, _/_, arith, length, now, needs}
 use Rattle.stored.proofs.Back.{back}
 use Rattle.formula.specs.Formula.{wordCount}
 use Rattle.layout.specs.Fields.{shapeOf, formula, formulaOf, padded}

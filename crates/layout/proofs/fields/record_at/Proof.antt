@@ -1,5 +1,5 @@
 -- `layout::fields::record_at` meets its contract: the part of the slice is the record.
-use borrow.Author.Needs.{needs}
+use Rattle.whole.proofs.Basics.{needs}
 use Rattle.layout.proofs.Cut.{part-is}
 use Rattle.layout.proofs.fields.record_at.Statement.{statement}
 use Rattle.layout.proofs.fields.record_at.Tie as tie

@@ -1,5 +1,5 @@
 -- `layout::fields::shape_of` meets its contract, field by field.
-use borrow.Author.Needs.{needs}
+use Rattle.whole.proofs.Basics.{needs}
 use Rattle.layout.specs.Fields.{shape, shapeOf}
 use Rattle.layout.proofs.fields.shape_of.Statement.{statement}
 use Rattle.layout.proofs.fields.shape_of.Tie as tie

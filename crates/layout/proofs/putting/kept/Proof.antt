@@ -1,5 +1,5 @@
 -- `layout::putting::kept` meets its contract: where the kind has no such field, and where it has.
-use borrow.Author.Tests.{eq-eqb, ne-eqb}
+use Rattle.whole.proofs.Basics.{eq-eqb, ne-eqb}
 use Rattle.layout.specs.Plain.{kept}
 use Rattle.layout.proofs.putting.kept.Statement.{statement}
 use Rattle.layout.proofs.putting.kept.Tie as tie

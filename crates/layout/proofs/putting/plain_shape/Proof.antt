@@ -1,5 +1,5 @@
 -- `layout::putting::plain_shape` meets its contract, field by field.
-use borrow.Author.Needs.{needs}
+use Rattle.whole.proofs.Basics.{needs}
 use Rattle.layout.specs.Plain.{plainShape}
 use Rattle.layout.proofs.putting.plain_shape.Statement.{statement}
 use Rattle.layout.proofs.putting.plain_shape.Tie as tie

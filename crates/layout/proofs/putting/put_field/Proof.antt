@@ -1,6 +1,5 @@
 -- `layout::putting::put_field` meets its contract: where the field is stored, and where it is not.
-use borrow.Author.Needs.{needs}
-use borrow.Author.Tests.{eq-eqb, ne-eqb}
+use Rattle.whole.proofs.Basics.{needs, eq-eqb, ne-eqb}
 use Rattle.layout.specs.Bytes.{fieldBytes}
 use Rattle.layout.proofs.putting.put_field.Statement.{statement}
 use Rattle.layout.proofs.putting.put_field.Tie as tie

@@ -1,11 +1,5 @@
 -- `layout::putting::put_fields` meets its contract: each field stands behind the one before it, if it is stored.
-use borrow.Author.Needs.{needs}
-use mathlib.Core.Path.{_∙_}
-use mathlib.Core.List.{_++_}
-use Prim.Native.Nat.{_+_}
-use native.Mathlib.Omega.{arith}
-use lib.ListN.{length-append}
-use denote.Ref.{now}
+use Rattle.whole.proofs.Basics.{_∙_, _++_, _+_, arith, length-append, now, needs}
 use Rattle.stored.proofs.StoreLaws.{next}
 use Rattle.table.specs.Order.{fieldSize}
 use Rattle.layout.specs.Bytes.{fieldBytes, fieldsBytes}

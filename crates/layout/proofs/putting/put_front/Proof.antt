@@ -1,9 +1,5 @@
 -- `layout::putting::put_front` meets its contract: three runs of stores, one behind the other.
-use borrow.Author.Needs.{needs}
-use mathlib.Core.List.{_++_}
-use Prim.Native.Nat.{_+_}
-use lib.ListN.{length-append}
-use denote.Ref.{now}
+use Rattle.whole.proofs.Basics.{_++_, _+_, length-append, now, needs}
 use Rattle.stored.specs.Numbers.{bytes2, bytes4}
 use Rattle.stored.proofs.StoreLaws.{next, length-bytes2, length-bytes4}
 use Rattle.layout.specs.Bytes.{frontBytes}

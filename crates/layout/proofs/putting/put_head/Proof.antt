@@ -1,9 +1,5 @@
 -- `layout::putting::put_head` meets its contract: the front, then two words behind it.
-use borrow.Author.Needs.{needs}
-use mathlib.Core.List.{_++_}
-use lib.ListN.{length-append}
-use denote.Ref.{now}
-use mir.Facts.{toZ-ofZ}
+use Rattle.whole.proofs.Basics.{_++_, length-append, toZ-ofZ, now, needs}
 use Rattle.stored.specs.Numbers.{bytes4, pattern}
 use Rattle.stored.proofs.StoreLaws.{next, length-bytes4}
 use Rattle.layout.specs.Bytes.{frontBytes, headBytes}

@@ -1,13 +1,5 @@
 -- `layout::putting::put_record` meets its contract: head, fields and words stand one behind the other.
-use borrow.Author.Needs.{needs}
-use mathlib.Core.Path.{_≡_}
-use Prim.Native.Nat.{_+_, _*_, _≤_}
-use native.Mathlib.Omega.{arith}
-use lib.ListN.{length}
-use denote.Ref.{now}
-use mir.Syntax.{w32}
-use mir.Val.{SFits}
-use mir.Facts.{toZ-ofZ}
+use Rattle.whole.proofs.Basics.{_≡_, _+_, _*_, _≤_, arith, length, w32, SFits, toZ-ofZ, now, needs}
 use Rattle.formula.specs.declared.Formula.{Formula}
 use Rattle.layout.proofs.PutLaws.{counts, reach, all-put}
 use Rattle.layout.proofs.putting.put_record.Statement.{statement}

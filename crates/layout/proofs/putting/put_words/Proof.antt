@@ -1,15 +1,6 @@
 -- `layout::putting::put_words` meets its contract. The invariant: the words written so far stand from the place on.
-use borrow.Author.Needs.{needs}
-use mathlib.Core.Path.{_≡_, _∙_, refl}
-use Prim.Native.Nat.{_≤_, _-_}
-use native.Mathlib.Omega.{arith}
-use lib.ListN.{length, getD, take}
+use Rattle.whole.proofs.Basics.{_≡_, _∙_, refl, _-_, _≤_, arith, length, take, getD, pos, w32, SFits, toZ-ofZ, now, needs}
 use lib.Seq.{sets}
-use lib.IntN.{pos}
-use mir.Syntax.{w32}
-use mir.Val.{SFits}
-use mir.Facts.{toZ-ofZ}
-use denote.Ref.{now}
 use Rattle.layout.specs.Bytes.{wordBytes}
 use Rattle.layout.proofs.RecordLaws.{turn}
 use Rattle.layout.proofs.putting.put_words.Statement.{statement}

@@ -1,9 +1,5 @@
 -- `records::formulas::admission_fault` meets its contract, by what was found.
-use borrow.Author.Needs.{needs}
-use mathlib.Core.Path.{_∙_, sym, ap}
-use Prim.Native.Nat.{_-_, _/_}
-use denote.Ref.{now}
-use lib.ListN.{length}
+use Rattle.whole.proofs.Basics.{_∙_, sym, ap, _-_, _/_, length, now, needs}
 use Rattle.stored.specs.Words.{words}
 use Rattle.records.specs.Faults.{judgedFault}
 use Rattle.records.proofs.formulas.admission_fault.Statement.{statement}

@@ -1,5 +1,5 @@
 -- `records::formulas::count_fault` meets its contract: the two links of its chain.
-use borrow.Author.Needs.{needs}
+use Rattle.whole.proofs.Basics.{needs}
 use Rattle.records.specs.Faults.{countFault}
 use Rattle.records.proofs.Chain.{stop, pass}
 use Rattle.records.proofs.formulas.count_fault.Statement.{statement}

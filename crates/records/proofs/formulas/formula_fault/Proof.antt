@@ -1,9 +1,5 @@
 -- `records::formulas::formula_fault` meets its contract: an arm for each code that a formula has, and one for the others.
-use borrow.Author.Needs.{needs}
-use mathlib.Core.Path.{_≡_, _∙_, refl, sym}
-use native.Mathlib.Omega.{arith}
-use denote.Ref.{now}
-use Prim.Native.Nat.{ℕ}
+use Rattle.whole.proofs.Basics.{_≡_, _∙_, refl, sym, ℕ, arith, now, needs}
 use Rattle.table.specs.Table.{rows, firstRow, rowOf}
 use Rattle.layout.specs.Fields.{codeOf}
 use Rattle.records.proofs.Chain.{stop}

@@ -1,11 +1,5 @@
 -- `records::formulas::front_fault` meets its contract: the links of its chain, the first of them in two parts.
-use borrow.Author.Needs.{needs}
-use borrow.Author.Tests.{lt-ltb, le-ltb}
-use mathlib.Core.Path.{_≡_}
-use Prim.Native.Nat.{_≤_}
-use native.Mathlib.Omega.{arith}
-use denote.Ref.{now}
-use lib.ListN.{length}
+use Rattle.whole.proofs.Basics.{_≡_, _≤_, arith, length, now, needs, lt-ltb, le-ltb}
 use Rattle.stored.proofs.Back.{back}
 use Rattle.layout.specs.Fields.{shapeOf, loOf, hiOf, formulaNumber}
 use Rattle.records.specs.Faults.{lengthFault, orderFault, ownFault, frontFault}

@@ -1,9 +1,5 @@
 -- `records::formulas::interval_fault` meets its contract: the high end needs no test of its own.
-use borrow.Author.Needs.{needs}
-use mathlib.Core.Path.{_≡_, _∙_, sym, ap}
-use mathlib.Core.Bool.{Bool, cond}
-use lib.Signed.{ltZ}
-use mir.Facts.{toZ-ofZ}
+use Rattle.whole.proofs.Basics.{_≡_, _∙_, sym, ap, Bool, cond, ltZ, toZ-ofZ, needs}
 use Rattle.records.specs.Faults.{wordFault, intervalFault}
 use Rattle.records.proofs.Chain.{stop}
 use Rattle.records.proofs.Values.{ends-fault}

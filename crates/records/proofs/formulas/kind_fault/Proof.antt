@@ -1,6 +1,5 @@
 -- `records::formulas::kind_fault` meets its contract, kind by kind.
-use borrow.Author.Needs.{needs}
-use mir.Facts.{toZ-ofZ}
+use Rattle.whole.proofs.Basics.{toZ-ofZ, needs}
 use Rattle.records.proofs.formulas.kind_fault.Statement.{statement}
 use Rattle.records.proofs.formulas.kind_fault.Tie as tie
 

@@ -1,6 +1,5 @@
 -- `records::formulas::most` meets its contract: A of the ends that were read.
-use borrow.Author.Needs.{needs}
-use mathlib.Core.Path.{_∙_, ap₂}
+use Rattle.whole.proofs.Basics.{_∙_, ap₂, needs}
 use Rattle.stored.proofs.Back.{back}
 use Rattle.formula.specs.Formula.{mostOf}
 use Rattle.records.proofs.formulas.most.Statement.{statement}

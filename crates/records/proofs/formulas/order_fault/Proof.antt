@@ -1,5 +1,5 @@
 -- `records::formulas::order_fault` meets its contract: a way out for each test of the definition.
-use borrow.Author.Tests.{eq-eqb, le-ltb, lt-ltb, ne-eqb}
+use Rattle.whole.proofs.Basics.{eq-eqb, ne-eqb, lt-ltb, le-ltb}
 use Rattle.records.specs.Faults.{orderFault}
 use Rattle.records.proofs.formulas.order_fault.Statement.{statement}
 use Rattle.records.proofs.formulas.order_fault.Tie as tie

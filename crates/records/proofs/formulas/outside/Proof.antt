@@ -1,5 +1,5 @@
 -- `records::formulas::outside` meets its contract: a way out for each test of the definition.
-use borrow.Author.Tests.{le-ltb, lt-ltb}
+use Rattle.whole.proofs.Basics.{lt-ltb, le-ltb}
 use Rattle.records.specs.Faults.{outside}
 use Rattle.records.proofs.formulas.outside.Statement.{statement}
 use Rattle.records.proofs.formulas.outside.Tie as tie

@@ -1,7 +1,5 @@
 -- `records::formulas::own_fault` meets its contract: the three links of its chain.
-use borrow.Author.Needs.{needs}
-use mathlib.Core.Path.{_≡_}
-use mir.Facts.{toZ-ofZ}
+use Rattle.whole.proofs.Basics.{_≡_, toZ-ofZ, needs}
 use Rattle.records.specs.Faults.{intervalFault, kindFault, ownFault}
 use Rattle.records.proofs.Chain.{stop, pass}
 use Rattle.records.proofs.formulas.own_fault.Statement.{statement}

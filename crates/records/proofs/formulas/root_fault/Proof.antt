@@ -1,7 +1,5 @@
 -- `records::formulas::root_fault` meets its contract: the front is all that a root can be refused for.
-use borrow.Author.Needs.{needs}
-use mathlib.Core.Path.{_∙_, refl, ap}
-use denote.Ref.{now}
+use Rattle.whole.proofs.Basics.{_∙_, refl, ap, now, needs}
 use Rattle.table.specs.declared.Row.{Row}
 use Rattle.table.specs.Table.{rows, firstRow, rowOf}
 use Rattle.table.proofs.Rule.{ruled}

@@ -1,7 +1,5 @@
 -- `records::formulas::size_fault` meets its contract: the counts, then the length that they ask for.
-use borrow.Author.Needs.{needs}
-use borrow.Author.Tests.{eq-eqb, ne-eqb}
-use mathlib.Core.Path.{_∙_, sym}
+use Rattle.whole.proofs.Basics.{_∙_, sym, needs, eq-eqb, ne-eqb}
 use Rattle.records.specs.Faults.{sizeFault}
 use Rattle.records.proofs.Chain.{stop, pass}
 use Rattle.records.proofs.Lengths.{counted}

@@ -1,6 +1,5 @@
 -- `records::formulas::word_fault` meets its contract: below the least word is no word.
-use mathlib.Core.Path.{_∙_, sym}
-use mir.Facts.{toZ-ofZ}
+use Rattle.whole.proofs.Basics.{_∙_, sym, toZ-ofZ}
 use Rattle.records.proofs.Values.{no-word}
 use Rattle.records.proofs.formulas.word_fault.Statement.{statement}
 use Rattle.records.proofs.formulas.word_fault.Tie as tie

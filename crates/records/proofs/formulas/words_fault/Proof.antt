@@ -1,11 +1,6 @@
 -- `records::formulas::words_fault` meets its contract. The invariant: the fault of all the words is that of the words still to come.
-use borrow.Author.Needs.{needs}
-use mathlib.Core.Path.{_≡_, _∙_, sym, ap, refl}
-use Prim.Native.Nat.{_<_, _≤_, _-_}
-use native.Mathlib.Omega.{arith}
-use denote.Ref.{now}
-use lib.IntN.{pos}
-use lib.ListN.{length, getD, drop, drop-of-length-le}
+use Rattle.whole.proofs.Basics.{_≡_, _∙_, refl, sym, ap, _-_, _≤_, _<_, arith, length, drop, getD, pos, now, needs}
+use lib.ListN.{drop-of-length-le}
 use Rattle.stored.specs.Words.{words}
 use Rattle.stored.proofs.Back.{back}
 use Rattle.stored.proofs.WordsLaws.{length-words, word-at}

@@ -1,6 +1,5 @@
 -- `records::formulas::words_first` meets its contract: the two links of its chain.
-use borrow.Author.Needs.{needs}
-use mathlib.Core.Path.{refl}
+use Rattle.whole.proofs.Basics.{refl, needs}
 use Rattle.records.proofs.Chain.{stop, pass}
 use Rattle.records.proofs.formulas.words_first.Statement.{statement}
 use Rattle.records.proofs.formulas.words_first.Tie as tie

@@ -1,7 +1,5 @@
 -- `records::framing::bare_fault` meets its contract: a row without counts has one length.
-use mathlib.Core.Path.{_∙_, sym, ap}
-use mathlib.Core.Bool.{Bool, cond}
-use borrow.Author.Tests.{eq-eqb, ne-eqb}
+use Rattle.whole.proofs.Basics.{_∙_, sym, ap, Bool, cond, eq-eqb, ne-eqb}
 use Rattle.records.proofs.Lengths.{bare-length}
 use Rattle.records.proofs.framing.bare_fault.Statement.{statement}
 use Rattle.records.proofs.framing.bare_fault.Tie as tie

@@ -1,5 +1,5 @@
 -- `records::framing::count_fault` meets its contract: a way out for each test of the definition.
-use borrow.Author.Tests.{eq-eqb, ne-eqb}
+use Rattle.whole.proofs.Basics.{eq-eqb, ne-eqb}
 use Rattle.records.specs.Faults.{endFault}
 use Rattle.records.proofs.framing.count_fault.Statement.{statement}
 use Rattle.records.proofs.framing.count_fault.Tie as tie

@@ -1,6 +1,5 @@
 -- `reader::formula_count` meets its contract: the answer is the walk's, case by case.
-use borrow.Author.Needs.{needs}
-use mathlib.Core.Path.{_∙_, sym, ap}
+use Rattle.whole.proofs.Basics.{_∙_, sym, ap, needs}
 use Rattle.sheet.specs.Reader.{countAnswer, formulaCount}
 use Rattle.sheet.proofs.Places.{from-first}
 use Rattle.sheet.proofs.reader.formula_count.Statement.{statement}

@@ -1,5 +1,5 @@
 -- `reader::formula_in` meets its contract: the row is that of the record's code, and the record is complete.
-use borrow.Author.Needs.{needs}
+use Rattle.whole.proofs.Basics.{needs}
 use Rattle.sheet.proofs.Words.{complete-record}
 use Rattle.sheet.proofs.reader.formula_in.Statement.{statement}
 use Rattle.sheet.proofs.reader.formula_in.Tie as tie

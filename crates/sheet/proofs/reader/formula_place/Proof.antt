@@ -1,6 +1,5 @@
 -- `reader::formula_place` meets its contract: the place that the walk has noted, 11 where it has noted none, or its refusal.
-use borrow.Author.Needs.{needs}
-use mathlib.Core.Path.{_∙_, sym, ap}
+use Rattle.whole.proofs.Basics.{_∙_, sym, ap, needs}
 use Rattle.sheet.specs.Reader.{placeFound, placeAnswer, formulaPlace}
 use Rattle.sheet.proofs.Places.{from-first, at-place}
 use Rattle.sheet.proofs.reader.formula_place.Statement.{statement}

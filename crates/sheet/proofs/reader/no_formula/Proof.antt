@@ -1,5 +1,5 @@
 -- `reader::no_formula` meets its contract: it is written out.
-use mathlib.Core.Path.{refl}
+use Rattle.whole.proofs.Basics.{refl}
 use Rattle.layout.specs.Fields.{padded}
 use Rattle.sheet.specs.Reader.{noFormula}
 use Rattle.sheet.proofs.reader.no_formula.Statement.{statement}

@@ -1,7 +1,5 @@
 -- `reader::read_formula` meets its contract: the formula of the record that stands at the place, or the place's refusal.
-use borrow.Author.Needs.{needs}
-use mathlib.Core.Path.{_≡_, _∙_, sym, ap}
-use denote.Ref.{now}
+use Rattle.whole.proofs.Basics.{_≡_, _∙_, sym, ap, now, needs}
 use Rattle.sheet.specs.Reader.{reading, formulaPlace, readAt, formulaRead, FormulaStands}
 use Rattle.sheet.specs.declared.answers.Found.the-variants.{Given}
 use Rattle.sheet.specs.declared.answers.Place.the-variants.{At}

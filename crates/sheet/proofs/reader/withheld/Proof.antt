@@ -1,6 +1,5 @@
 -- `reader::withheld` meets its contract: the refusal beside no formula.
-use borrow.Author.Needs.{needs}
-use mathlib.Core.Path.{ap}
+use Rattle.whole.proofs.Basics.{ap, needs}
 use Rattle.sheet.specs.Reader.{reading}
 use Rattle.sheet.proofs.reader.withheld.Statement.{statement}
 use Rattle.sheet.proofs.reader.withheld.Tie as tie
