@@ -3,6 +3,7 @@ pub mod Words
 pub mod Places
 -- Promises.
 pub mod OneToNine
+pub mod RefusedThere
 pub mod SameRefusal
 pub mod AcceptedShape
 pub mod CutShort

@@ -7,6 +7,7 @@ use Rattle.layout.specs.Fields.{rowFor, formulaNumber}
 use Rattle.records.specs.Faults.{lengthFault, orderFault}
 use Rattle.records.specs.Sheets.{RecordOf, FormulaBytes, EachFormula, Rising, inLine}
 use Rattle.walking.specs.Walking.{placeFault, classFault, recordHere, foundBy, afterFormula, onward, runDone, faultAt, walkFrom}
+use Rattle.walking.specs.Refused.{nextNumber}
 use Rattle.walking.specs.declared.Walk.{Walk}
 use Rattle.walking.proofs.Clear.{no-fault, walk-on}
 use Rattle.walking.proofs.Records.{frame-there, bytes-there}
@@ -76,18 +77,20 @@ module _ (fs : List (List ℕ)) where
     pub at : v .at ≡ w .at + length (inLine fs)
     pub count : v .count ≡ w .count
     pub seen : v .seen ≡ w .seen + length fs
+    pub next : v .next ≡ nextNumber (w .next) fs
     pub asked : v .asked ≡ w .asked
     pub found : v .found ≡ placeIn (w .asked) (w .at) (w .found) fs
 
 pub behind : (fs : List (List ℕ)) (w : Walk) → Behind fs w (afterAll fs w)
 unfolding afterAll foundBy
-behind [] w = record { at = omega arith; count = refl; seen = omega arith; asked = refl; found = refl }
+behind [] w = record { at = omega arith; count = refl; seen = omega arith; next = refl; asked = refl; found = refl }
 behind (b ∷ bs) w =
     let i = behind bs (afterFormula b w) in
     record {
       at = omega (arith, i .at, length-append b (inLine bs));
       count = i .count;
       seen = omega (arith, i .seen);
+      next = i .next;
       asked = i .asked;
       found = i .found;
     }

@@ -6,3 +6,5 @@ pub mod Going
 pub mod Formulas
 pub mod WalkToShape
 pub mod ShapeToWalk
+pub mod WalkToRefusal
+pub mod RefusalToWalk

@@ -26,7 +26,7 @@ start-fine b c e l m = rw (ruled (codeOf b) .counted, e) (simp (le-ltb c 1 l, le
 
 module _ (s : ℕ) (bytes : List ℕ) where
   -- past the start, at 0
-  past-start : (b after : List ℕ) (asked k : ℕ) → bytes ≡ b ++ after → RecordOf StartRecord b → 1 ≤ countOf b → countOf b ≤ 64 → Scale s
+  pub past-start : (b after : List ℕ) (asked k : ℕ) → bytes ≡ b ++ after → RecordOf StartRecord b → 1 ≤ countOf b → countOf b ≤ 64 → Scale s
       → walkFrom (suc k) s bytes 0 (begin 0 asked) ≡ walkFrom k s bytes 0 (afterStart b (begin 0 asked))
   past-start b after asked k q r l m h =
       let w = begin 0 asked in

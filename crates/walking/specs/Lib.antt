@@ -1,2 +1,3 @@
--- The walk over a sheet or a run.
+-- The walk over a sheet or a run, and what a refusal of it says.
 pub mod Walking
+pub mod Refused
