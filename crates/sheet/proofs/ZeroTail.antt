@@ -1,4 +1,5 @@
--- Promise: an accepted sheet with its bytes from any place on set to zero is refused, or is the same bytes.
+-- Promise: an accepted sheet whose last bytes became zeros, two or more of them, is refused; one or none changes no byte. For the last two
+-- bytes are the count, from 1 to 64, of which the second is zero and the first is not.
 use Rattle.whole.proofs.Basics.{_≡_, _∙_, refl, sym, ap, Bool, true, false, _⊎_, inl, inr, List, _++_, append-assoc, ℕ, _+_, _-_, _≤_, _<_, arith, ltb, length, take, getD, length-append, ltb-true, ltb-false}
 use lib.ListN.{replicate, length-replicate, getD-replicate, List·getD-append}
 use lib.Seq.{ext-getD, getD-take, length-take-le, getD-append-add}
@@ -10,6 +11,7 @@ use Rattle.records.proofs.Lengths.{laid}
 use Rattle.sheet.specs.Reader.{Accepted, NotAccepted}
 use Rattle.sheet.proofs.OneToNine.{one-to-nine}
 use Rattle.sheet.proofs.AcceptedShape.{accepted-shape}
+use Rattle.sheet.proofs.CutShort.{before-or-not}
 
 -- the bytes from place k on set to zero
 abbrev pub zeroed : ℕ → List ℕ → List ℕ
@@ -43,14 +45,7 @@ last-bytes s bytes a =
       high = omega (arith, y, c, h .opens .2, h .opens .3);
     }
 
--- ---- so zeros can only stand where the last byte stands
-
-before-or-not : (i k : ℕ) → (i < k) ⊎ (k ≤ i)
-before-or-not i k = at (ltb i k) refl
-  where
-    at : (t : Bool) → ltb i k ≡ t → (i < k) ⊎ (k ≤ i)
-    at true e = inl (ltb-true i k e)
-    at false e = inr (ltb-false i k e)
+-- ---- what zeros do
 
 module _ (k : ℕ) (bytes : List ℕ) (h : k ≤ length bytes) where
   length-zeroed : length (zeroed k bytes) ≡ length bytes
@@ -64,24 +59,29 @@ module _ (k : ℕ) (bytes : List ℕ) (h : k ≤ length bytes) where
       let d : i ≡ length (take k bytes) + (i - k) = rw (length-take-le k bytes h) (omega arith) in
       ap (λ (x : ℕ). getD (zeroed k bytes) x 0) d ∙ getD-append-add (take k bytes) (replicate (length bytes - k) 0) (i - k) 0 ∙ getD-replicate (length bytes - k) (i - k) 0 0 (omega arith)
 
-  same : (s : ℕ) → Accepted s bytes → Accepted s (zeroed k bytes) → zeroed k bytes ≡ bytes
-  same s a z =
-      let b = last-bytes s bytes a in
-      let d = last-bytes s (zeroed k bytes) z in
-      let l = length-zeroed in
-      ext-getD 0 (zeroed k bytes) bytes l (λ i f. at i (rw l at f) (before-or-not i k) (b .high) (late (d .low) (before-or-not (length bytes - 2) k)) (b .eight))
+  -- the byte before the last is not zero, so a tail that has it is seen; the last one is zero already
+  reached : LastBytes (zeroed k bytes) → length bytes < k + 2
+  reached d = at (before-or-not (length bytes) (k + 2))
     where
-      late : 1 ≤ getD (zeroed k bytes) (length (zeroed k bytes) - 2) 0 → ((length bytes - 2) < k) ⊎ (k ≤ (length bytes - 2)) → 8 ≤ length bytes → length bytes - 2 < k
-      late n (inl g) e = g
-      late n (inr g) e = absurd (omega (arith, rw length-zeroed at n, zero-from (length bytes - 2) g (omega arith)))
+      at : (length bytes < k + 2) ⊎ (k + 2 ≤ length bytes) → length bytes < k + 2
+      at (inl g) = g
+      at (inr g) = absurd (omega (arith, rw length-zeroed at (d .low), zero-from (length bytes - 2) (omega (arith, g)) (omega (arith, g))))
 
-      at : (i : ℕ) → i < length bytes → (i < k) ⊎ (k ≤ i) → getD bytes (length bytes - 1) 0 ≡ 0 → (8 ≤ length bytes → length bytes - 2 < k) → 8 ≤ length bytes → getD (zeroed k bytes) i 0 ≡ getD bytes i 0
-      at i f (inl g) b c e = kept i g
-      at i f (inr g) b c e = let j : i ≡ length bytes - 1 = omega (arith, c e) in zero-from i g f ∙ sym (rw j b)
+  same : LastBytes bytes → length bytes < k + 2 → zeroed k bytes ≡ bytes
+  same b g = ext-getD 0 (zeroed k bytes) bytes length-zeroed (λ i f. at i (rw length-zeroed at f) (before-or-not i k))
+    where
+      at : (i : ℕ) → i < length bytes → (i < k) ⊎ (k ≤ i) → getD (zeroed k bytes) i 0 ≡ getD bytes i 0
+      at i f (inl l) = kept i l
+      at i f (inr l) = let j : i ≡ length bytes - 1 = omega (arith, g, f, l) in zero-from i l f ∙ sym (rw j (b .high))
 
-pub zero-tail : (s : ℕ) (bytes : List ℕ) (k : ℕ) → Accepted s bytes → k ≤ length bytes → (zeroed k bytes ≡ bytes) ⊎ NotAccepted s (zeroed k bytes)
+-- two zeros or more at the end, up to the whole sheet
+pub zero-tail : (s : ℕ) (bytes : List ℕ) (k : ℕ) → Accepted s bytes → k + 2 ≤ length bytes → NotAccepted s (zeroed k bytes)
 zero-tail s bytes k a h = at (one-to-nine s (zeroed k bytes))
   where
-    at : Accepted s (zeroed k bytes) ⊎ NotAccepted s (zeroed k bytes) → (zeroed k bytes ≡ bytes) ⊎ NotAccepted s (zeroed k bytes)
-    at (inl z) = inl (same k bytes h s a z)
-    at (inr r) = inr r
+    at : Accepted s (zeroed k bytes) ⊎ NotAccepted s (zeroed k bytes) → NotAccepted s (zeroed k bytes)
+    at (inl z) = absurd (omega (arith, h, reached k bytes (omega (arith, h)) (last-bytes s (zeroed k bytes) z)))
+    at (inr r) = r
+
+-- one or none: no byte is changed
+pub zero-nothing : (s : ℕ) (bytes : List ℕ) (k : ℕ) → Accepted s bytes → k ≤ length bytes → length bytes < k + 2 → zeroed k bytes ≡ bytes
+zero-nothing s bytes k a h g = same k bytes h (last-bytes s bytes a) g

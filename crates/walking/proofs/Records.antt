@@ -32,7 +32,7 @@ module _ (s : List ℕ) (at : ℕ) (z : frameFault s at ≡ 0) where
 -- ---- put there
 
 module _ (before b after : List ℕ) (k : Class) (r : RecordOf k b) where
-  there : number4 (before ++ (b ++ after)) (length before) ≡ length b
+  pub there : number4 (before ++ (b ++ after)) (length before) ≡ length b
   there =
       let n = number4-drop (before ++ (b ++ after)) (length before) in
       sym n ∙ ap (λ (t : List ℕ). number4 t 0) (drop-append-seam before (b ++ after)) ∙ number4-more b after 0 (omega (arith, r .least)) ∙ r .says
