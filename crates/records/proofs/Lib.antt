@@ -6,3 +6,4 @@ pub mod Lengths
 pub mod Values
 pub mod Soundness
 pub mod FormulaLaws
+pub mod FaultSets

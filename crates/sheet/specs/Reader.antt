@@ -51,6 +51,10 @@ abbrev pub placePlace : Place → ℕ
 placePlace (At k) = 0
 placePlace (Absent r) = r .place
 
+abbrev pub placeValue : Place → ℕ
+placeValue (At k) = k
+placeValue (Absent r) = 0
+
 abbrev pub foundNumber : Found → ℕ
 foundNumber Given = 0
 foundNumber (Withheld r) = r .number
@@ -78,6 +82,9 @@ abbrev pub NotAccepted : ℕ → List ℕ → Type 0
 NotAccepted s bytes = OneOf sheetRefusals (countNumber (formulaCount s bytes))
 
 -- ---- where the formula of a number stands: a sheet's refusals, then 11. 0 is the start's place, so no formula's
+abbrev pub readerRefusals : List ℕ
+readerRefusals = 11 ∷ sheetRefusals
+
 abbrev pub placeFound : ℕ → Place
 placeFound zero = Absent (refusal 0 11)
 placeFound (suc k) = At (suc k)

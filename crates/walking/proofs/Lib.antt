@@ -2,6 +2,7 @@
 pub mod Classes
 pub mod Clear
 pub mod Records
+pub mod Numbered
 pub mod Going
 pub mod Formulas
 pub mod WalkToShape
