@@ -1,7 +1,8 @@
--- Laws of the board, and its promises, from `AnswersInside` on.
+-- Laws of the board, and its promises, from `SameNumbers` on.
 pub mod IntervalLaws
 pub mod ReadingLaws
+pub mod SameNumbers
 pub mod AnswersInside
 pub mod SheetDistance
-pub mod SameNumbers
+pub mod WhichRefusals
 pub mod Settled

@@ -1,12 +1,13 @@
--- Promise: the paper's number and place are the same whichever way a refusal is shown.
-use Rattle.whole.proofs.Basics.{_≡_, refl, ap, ℕ}
+-- Promise: the paper's number and place are the same whichever way a refusal is shown, and the values those of the answer.
+use Rattle.whole.proofs.Basics.{_≡_, refl, ap, ℕ, ℤ}
 use Rattle.formula.specs.declared.Formula.{Formula}
+use Rattle.door.specs.Exact.{Exactly}
 use Rattle.records.specs.declared.Refusal.{Refusal}
 use Rattle.sheet.specs.Reader.{foundNumber, foundPlace}
 use Rattle.sheet.specs.declared.answers.Found.{Found}
 use Rattle.sheet.specs.declared.answers.Found.the-variants.{Given, Refused as Withheld}
 use Rattle.sheet.specs.declared.answers.Reading.{Reading}
-use Rattle.board.specs.Board.{evaluationNumber, evaluationPlace, shownNumber, shownPlace, intervalNumber, intervalPlace, ShownAs, IntervalBy, IntervalAs}
+use Rattle.board.specs.Board.{evaluationNumber, evaluationPlace, shownNumber, shownPlace, shownValue, intervalNumber, intervalPlace, intervalLow, intervalHigh, answered, ShownAs, IntervalBy, IntervalAs}
 use Rattle.board.specs.declared.answers.Evaluation.{Evaluation}
 use Rattle.board.specs.declared.answers.Evaluation.the-variants.{Answered, Refused}
 use Rattle.board.specs.declared.answers.Shown.{Shown}
@@ -20,6 +21,16 @@ shown-number s (Answered w) (Value x) p = (refl, refl)
 shown-number s (Answered w) (NotShown r) p = absurd p
 shown-number s (Refused q) (Value x) p = absurd p
 shown-number s (Refused q) (NotShown r) p = (ap (λ (z : Refusal). z .number) p, ap (λ (z : Refusal). z .place) p)
+
+-- and its value the answer word's
+pub shown-value : (s : ℕ) (w : ℤ) (x : Shown) → ShownAs s (answered w) x → (shownNumber x ≡ 0) × Exactly s w (shownValue x)
+shown-value s w (Value x) p = (refl, p)
+shown-value s w (NotShown r) p = absurd p
+
+-- the ends are those of the formula
+pub interval-ends : (s : ℕ) (f : Formula) (i : Interval) → IntervalBy s Given f i → (intervalNumber i ≡ 0) × Exactly s (f .lo) (intervalLow i) × Exactly s (f .hi) (intervalHigh i)
+interval-ends s f (Between e) p = (refl, p .0, p .1)
+interval-ends s f (NoInterval r) p = absurd p
 
 -- the interval's refusal is the reader's
 pub interval-number : (s : ℕ) (r : Reading) (i : Interval) → IntervalAs s r i → (intervalNumber i ≡ foundNumber (r .found)) × (intervalPlace i ≡ foundPlace (r .found))

@@ -18,7 +18,7 @@ use Rattle.door.specs.Taken.{takenOf, refusalOf}
 use Rattle.door.specs.Exact.{Exactly}
 use Rattle.records.specs.Guard.{refusal}
 use Rattle.layout.specs.Plain.{wordsIn}
-use Rattle.sheet.specs.Reader.{formulaRead}
+use Rattle.sheet.specs.Reader.{readerRefusals, formulaRead}
 use Rattle.sheet.specs.declared.answers.Found.{Found}
 use Rattle.sheet.specs.declared.answers.Found.the-variants.{Given, Refused as Withheld}
 use Rattle.sheet.specs.declared.answers.Reading.{Reading}
@@ -72,6 +72,13 @@ intervalLow (NoInterval r) = zeroDouble
 abbrev pub intervalHigh : Interval → Float
 intervalHigh (Between e) = e .high
 intervalHigh (NoInterval r) = zeroDouble
+
+-- ---- the refusals that each can give: evaluation the reader's and 10, the door 13 besides; the interval has the reader's
+abbrev pub evaluationRefusals : List ℕ
+evaluationRefusals = 10 ∷ readerRefusals
+
+abbrev pub doorRefusals : List ℕ
+doorRefusals = 13 ∷ evaluationRefusals
 
 -- 10 to 13 give place 0
 abbrev pub refused : ℕ → Evaluation

@@ -1,6 +1,6 @@
 -- Promise: any bytes are accepted, or refused by one of a sheet's refusals; a number asked for is refused by these, or by 11. For a walk over
 -- a sheet is whole, or broken by one of them.
-use Rattle.whole.proofs.Basics.{_≡_, refl, _⊎_, inl, inr, List, _∷_, ℕ, suc, zero}
+use Rattle.whole.proofs.Basics.{_≡_, refl, ap, _⊎_, inl, inr, List, ℕ, suc, zero}
 use Rattle.records.specs.Refusals.{OneOf, sheetRefusals}
 use Rattle.records.proofs.FaultSets.{not-zero}
 use Rattle.walking.specs.Walking.{walkOf}
@@ -8,6 +8,7 @@ use Rattle.walking.specs.declared.Walked.{Walked}
 use Rattle.walking.specs.declared.Walked.the-variants.{Whole, Broken}
 use Rattle.walking.proofs.Numbered.{Numbered, numbered}
 use Rattle.sheet.specs.Reader.{countNumber, formulaCount, noNumber, countAnswer, readerRefusals, placeNumber, placeAnswer, formulaPlace, foundNumber, readAt, formulaRead, Accepted, NotAccepted}
+use Rattle.sheet.specs.declared.answers.Found.the-variants.{Given}
 use Rattle.sheet.specs.declared.answers.Place.{Place}
 use Rattle.sheet.specs.declared.answers.Place.the-variants.{At as StandsAt, Refused as Absent}
 
@@ -32,19 +33,20 @@ accepted s bytes e = at (walkOf s bytes 0 noNumber) refl (numbered s bytes 0 noN
 
 -- ---- the place of a formula, and the formula
 
-pub or-eleven : (s : ℕ) (bytes : List ℕ) (n : ℕ) → OneOf (0 ∷ readerRefusals) (placeNumber (formulaPlace s bytes n))
+pub or-eleven : (s : ℕ) (bytes : List ℕ) (n : ℕ) → ((k : ℕ) × (formulaPlace s bytes n ≡ StandsAt k)) ⊎ OneOf readerRefusals (placeNumber (formulaPlace s bytes n))
 unfolding formulaPlace
 or-eleven s bytes n = at (walkOf s bytes 0 n) (numbered s bytes 0 n)
   where
-    at : (r : Walked) → Numbered 0 r → OneOf (0 ∷ readerRefusals) (placeNumber (placeAnswer r))
+    at : (r : Walked) → Numbered 0 r → ((k : ℕ) × (placeAnswer r ≡ StandsAt k)) ⊎ OneOf readerRefusals (placeNumber (placeAnswer r))
     at (Whole c zero) h = inr (inl refl)
-    at (Whole c (suc k)) h = inl refl
+    at (Whole c (suc k)) h = inl (suc k, refl)
     at (Broken r) h = inr (inr h)
 
-pub read-or-eleven : (s : ℕ) (bytes : List ℕ) (n : ℕ) → OneOf (0 ∷ readerRefusals) (foundNumber (formulaRead s bytes n .found))
+pub read-or-eleven : (s : ℕ) (bytes : List ℕ) (n : ℕ) → (formulaRead s bytes n .found ≡ Given) ⊎ OneOf readerRefusals (foundNumber (formulaRead s bytes n .found))
 unfolding formulaRead
 read-or-eleven s bytes n = at (formulaPlace s bytes n) (or-eleven s bytes n)
   where
-    at : (p : Place) → OneOf (0 ∷ readerRefusals) (placeNumber p) → OneOf (0 ∷ readerRefusals) (foundNumber (readAt bytes p .found))
-    at (StandsAt k) h = inl refl
-    at (Absent r) h = h
+    at : (p : Place) → ((k : ℕ) × (p ≡ StandsAt k)) ⊎ OneOf readerRefusals (placeNumber p) → (readAt bytes p .found ≡ Given) ⊎ OneOf readerRefusals (foundNumber (readAt bytes p .found))
+    at p (inl h) = inl (ap (λ (x : Place). readAt bytes x .found) (h .1))
+    at (StandsAt k) (inr h) = inl refl
+    at (Absent r) (inr h) = inr h
