@@ -1,10 +1,10 @@
 -- Evaluation takes a whole sheet, a number and an argument: the reader's refusals, then 13, 10. The binary places are s.
 use mathlib.Core.Path.{_≡_, refl}
-use mathlib.Core.Bool.{false, cond}
+use mathlib.Core.Bool.{cond}
 use mathlib.Core.List.{List, [], _∷_}
 use Prim.Native.Nat.{ℕ}
 use lib.IntN.{ℤ, pos, negsuc}
-use lib.Ieee.{Float, fin}
+use lib.Ieee.{Float, binary64, ofBits}
 use lib.Signed.{ltZ}
 use Rattle.word.specs.Rounded.{rounded}
 use Rattle.formula.specs.declared.Kind.the-variants.{Polynomial}
@@ -29,10 +29,11 @@ use Rattle.board.specs.declared.answers.Shown.the-variants.{Value, Refus
 use Rattle.board.specs.declared.answers.Interval.{Interval}
 use Rattle.board.specs.declared.answers.Interval.the-variants.{Between, Refused as NoInterval}
 
--- ---- the paper's number, place and values of each case; 0 where there is none
-abbrev zeroDouble : Float
-zeroDouble = fin false 0 (pos 0)
+-- the double whose bits are all 0
+abbrev plusZero : Float
+plusZero = ofBits binary64 0
 
+-- ---- the paper's number, place and values of each case; 0 where there is none
 abbrev pub evaluationNumber : Evaluation → ℕ
 evaluationNumber (Answered w) = 0
 evaluationNumber (Refused r) = r .number
@@ -55,7 +56,7 @@ shownPlace (NotShown r) = r .place
 
 abbrev pub shownValue : Shown → Float
 shownValue (Value x) = x
-shownValue (NotShown r) = zeroDouble
+shownValue (NotShown r) = plusZero
 
 abbrev pub intervalNumber : Interval → ℕ
 intervalNumber (Between e) = 0
@@ -67,11 +68,11 @@ intervalPlace (NoInterval r) = r .place
 
 abbrev pub intervalLow : Interval → Float
 intervalLow (Between e) = e .low
-intervalLow (NoInterval r) = zeroDouble
+intervalLow (NoInterval r) = plusZero
 
 abbrev pub intervalHigh : Interval → Float
 intervalHigh (Between e) = e .high
-intervalHigh (NoInterval r) = zeroDouble
+intervalHigh (NoInterval r) = plusZero
 
 -- ---- the refusals that each can give: evaluation the reader's and 10, the door 13 besides; the interval has the reader's
 abbrev pub evaluationRefusals : List ℕ
