@@ -14,7 +14,7 @@ use Rattle.polynomial.specs.Polynomial.{horner}
 use Rattle.layout.specs.Fields.{shape, padded, formula}
 use Rattle.door.specs.declared.answer.Taken.{Taken}
 use Rattle.door.specs.declared.answer.Taken.the-variants.{Word, NoWord, NotFinite}
-use Rattle.door.specs.Taken.{takenOf, refusalOf}
+use Rattle.door.specs.Taken.{takenOf, takenNumber, takenPlace}
 use Rattle.door.specs.Exact.{Exactly}
 use Rattle.records.specs.Guard.{refusal}
 use Rattle.layout.specs.Plain.{wordsIn}
@@ -104,10 +104,13 @@ abbrev pub evaluated : ℕ → List ℕ → ℕ → ℤ → Evaluation
 evaluated s bytes n x = whenGiven (formulaRead s bytes n .found) (answerAt s (formulaRead s bytes n .formula) x)
 
 -- ---- the door for doubles. Infinite or not a number (13); the rounded value is no word, or outside the interval (10)
+abbrev notTaken : Taken → Evaluation
+notTaken t = Refused (refusal (takenPlace t) (takenNumber t))
+
 abbrev pub takenBy : ℕ → Formula → Taken → Evaluation
 takenBy s f (Word w) = answerAt s f w
-takenBy s f NoWord = refused (refusalOf NoWord)
-takenBy s f NotFinite = refused (refusalOf NotFinite)
+takenBy s f NoWord = notTaken NoWord
+takenBy s f NotFinite = notTaken NotFinite
 
 abbrev pub takenAt : ℕ → Formula → Float → Evaluation
 takenAt s f x = takenBy s f (takenOf s x)

@@ -29,11 +29,19 @@ takenOf s nan = NotFinite
 takenOf s (inf t) = NotFinite
 takenOf s (fin t m e) = asWord (argumentOf s t m e)
 
--- document 01's number of each case; 0 is no refusal
-abbrev pub refusalOf : Taken → ℕ
-refusalOf (Word w) = 0
-refusalOf NoWord = 10
-refusalOf NotFinite = 13
+-- the paper's number of each case, 0 where there is no refusal, its place, and the word, 0 where there is none
+abbrev pub takenNumber : Taken → ℕ
+takenNumber (Word w) = 0
+takenNumber NoWord = 10
+takenNumber NotFinite = 13
+
+abbrev pub takenPlace : Taken → ℕ
+takenPlace t = 0
+
+abbrev pub takenWord : Taken → ℤ
+takenWord (Word w) = w
+takenWord NoWord = pos 0
+takenWord NotFinite = pos 0
 
 -- ---- worked examples. Half a step, 2^-25, is a tie: it goes upward, and so do -1/2 and -3/2 of a step
 half-a-step : takenOf 24 (fin false 1 (negsuc 24)) ≡ Word (pos 1)
@@ -79,19 +87,23 @@ under-least : takenOf 24 (fin true 4294967295 (negsuc 24)) ≡ Word (negsuc 2147
 unfolding takenOf rounded
 under-least = refl
 
+-- a word has no refusal, and what is refused has no word
+with-word : (takenNumber (Word (pos 1)) ≡ 0) × (takenWord (Word (pos 1)) ≡ pos 1) × (takenWord NoWord ≡ pos 0) × (takenWord NotFinite ≡ pos 0)
+with-word = (refl, refl, refl, refl)
+
 -- 2^31 steps, of either sign, and what is not finite: refused by 10 and by 13
-too-large : refusalOf (takenOf 24 (fin false 1 (pos 7))) ≡ 10
+too-large : takenNumber (takenOf 24 (fin false 1 (pos 7))) ≡ 10
 unfolding takenOf rounded
 too-large = refl
 
-too-low : refusalOf (takenOf 24 (fin true 1 (pos 7))) ≡ 10
+too-low : takenNumber (takenOf 24 (fin true 1 (pos 7))) ≡ 10
 unfolding takenOf rounded
 too-low = refl
 
-minus-infinity : refusalOf (takenOf 24 (inf true)) ≡ 13
+minus-infinity : takenNumber (takenOf 24 (inf true)) ≡ 13
 unfolding takenOf
 minus-infinity = refl
 
-no-number : refusalOf (takenOf 24 nan) ≡ 13
+no-number : takenNumber (takenOf 24 nan) ≡ 13
 unfolding takenOf
 no-number = refl

@@ -1,6 +1,6 @@
 // What the door answers. (A type may not stand beside a function whose name differs only by case.)
 
-// The word taken from a double, or why none is. `refusalOf` of specs/Taken.antt gives document 01's number of each case.
+// The word taken from a double, or why none is. specs/Taken.antt gives the paper's number, place and word of each case.
 pub enum Taken {
     Word(i32),
     NoWord,
