@@ -3,4 +3,5 @@ pub mod Elements
 pub mod RecordFaults
 pub mod RecordWriting
 pub mod Accepted
+pub mod WhichRefusals
 pub mod Settled

@@ -41,6 +41,10 @@ recordWriting s f room =
     (guard (scaleFault s) refusedBy
     (plainWriting s (rowBy f) (plain f) room))
 
+-- the refusals that it can give
+abbrev pub recordWriterRefusals : List ℕ
+recordWriterRefusals = 3 ∷ 2 ∷ 6 ∷ 7 ∷ 8 ∷ 12 ∷ []
+
 abbrev pub bytesOf : Formula → List ℕ
 bytesOf f = recordBytes (rowBy f) (plain f)
 

@@ -3,4 +3,6 @@ pub mod SheetLaws
 pub mod SheetShape
 pub mod ReadsWritten
 pub mod WritesRead
+pub mod WritesAll
+pub mod WhichRefusals
 pub mod Settled

@@ -168,21 +168,41 @@ end-again b c h o e =
 run-in : (s c : ℕ) (bytes : List ℕ) (z : SheetOf s c bytes) → RunOf s c (inLine (z .formulas))
 run-in s c bytes z = record { formulas = z .formulas; whole = refl; many = z .many; most = z .opens .3; each = z .each; rising = z .rising }
 
-pub writes-sheet : (s : ℕ) (bytes : List ℕ) (room : ℕ) → Accepted s bytes → Bytes bytes → length bytes ≤ room → (sheetWriting s (runOf bytes) room ≡ Written (length bytes)) × (sheetOf s (runOf bytes) ≡ bytes)
-writes-sheet s bytes room a h g =
-    let c = countValue (formulaCount s bytes) in
-    let z = accepted-shape s bytes a in
+-- what stands in a sheet of c formulas: start and end are written again, and the run stands between them
+record Around (c : ℕ) (bytes run : List ℕ) (start finish : List ℕ) : Type 0 where
+  opens : framingBytes startRow c ≡ start
+  closes : framingBytes endRow c ≡ finish
+  long : length bytes ≡ length run + added
+  between : runOf bytes ≡ run
+
+around : (s c : ℕ) (bytes : List ℕ) (z : SheetOf s c bytes) → Bytes bytes → Around c bytes (inLine (z .formulas)) (z .start) (z .finish)
+around s c bytes z h =
     let run = inLine (z .formulas) in
     let t = subst Bytes (z .whole) h in
     let i = start-again (z .start) c (bytes-left (z .start) _ t) (z .opens .0) (z .opens .1) in
     let j = end-again (z .finish) c (bytes-right run (z .finish) (bytes-right (z .start) _ t)) (z .closes .0) (z .closes .1) in
     let n : length bytes ≡ length run + added = omega (arith, start-head, end-head, ap length (z .whole), length-append (z .start) (run ++ z .finish), length-append run (z .finish), i .0, j .0) in
     let k : length bytes - added ≡ length run = omega (arith, n) in
-    let e : runOf bytes ≡ run = rw k (ap (λ (l : List ℕ). take (length run) (drop (startRow .head) l)) (z .whole) ∙ ap (take (length run)) (drop-at (z .start) (run ++ z .finish) (startRow .head) (i .0 ∙ sym start-head)) ∙ take-at run (z .finish) (length run) refl) in
+    record {
+      opens = i .1;
+      closes = j .1;
+      long = n;
+      between = rw k (ap (λ (l : List ℕ). take (length run) (drop (startRow .head) l)) (z .whole) ∙ ap (take (length run)) (drop-at (z .start) (run ++ z .finish) (startRow .head) (i .0 ∙ sym start-head)) ∙ take-at run (z .finish) (length run) refl);
+    }
+
+pub run-again : (s c : ℕ) (bytes : List ℕ) (z : SheetOf s c bytes) → Bytes bytes → runOf bytes ≡ inLine (z .formulas)
+run-again s c bytes z h = around s c bytes z h .between
+
+pub writes-sheet : (s : ℕ) (bytes : List ℕ) (room : ℕ) → Accepted s bytes → Bytes bytes → length bytes ≤ room → (sheetWriting s (runOf bytes) room ≡ Written (length bytes)) × (sheetOf s (runOf bytes) ≡ bytes)
+writes-sheet s bytes room a h g =
+    let c = countValue (formulaCount s bytes) in
+    let z = accepted-shape s bytes a in
+    let o = around s c bytes z h in
+    let run = inLine (z .formulas) in
     let r = run-in s c bytes z in
     let m : recordsIn (runWalked s run) ≡ c = ap recordsIn (run-is-whole s c run r .1) in (
-      ap (λ (l : List ℕ). sheetWriting s l room) e ∙ sheet-written s c run room (z .scale) (z .opens .2) r (omega (arith, n, g)) ∙ ap Written (sym n),
-      ap (sheetOf s) e ∙ rw m (rw (i .1, j .1) (sym (z .whole))),
+      ap (λ (l : List ℕ). sheetWriting s l room) (o .between) ∙ sheet-written s c run room (z .scale) (z .opens .2) r (omega (arith, o .long, g)) ∙ ap Written (sym (o .long)),
+      ap (sheetOf s) (o .between) ∙ rw m (rw (o .opens, o .closes) (sym (z .whole))),
     )
 
 -- ---- each formula that the reader gives

@@ -1,7 +1,7 @@
 -- What the two promises speak of, at s binary places: reading undoes writing, and writing undoes reading.
 use Prim.Native.Nat.{ℕ, _+_, _-_, _≤_}
 use mathlib.Core.Path.{_≡_}
-use mathlib.Core.List.{List, [], _∷_}
+use mathlib.Core.List.{List, [], _∷_, _++_}
 use mathlib.Core.Logic.{_⊎_}
 use lib.ListN.{length, take, drop}
 use Rattle.formula.specs.declared.Formula.{Formula}
@@ -47,3 +47,12 @@ pub record OwnRecord (s : ℕ) (bytes : List ℕ) (n : ℕ) (bs : List (List ℕ
   pub number : formulaNumber here ≡ n
   pub again : bytesOf (formulaRead s bytes n .formula) ≡ here
   pub written : (room : ℕ) → length here ≤ room → recordWriting s (formulaRead s bytes n .formula) room ≡ Written (length here)
+
+-- what the reader gives for the number of each of a sheet's records, in their order; and the run of records that the record writer makes of formulas
+abbrev pub allRead : ℕ → List ℕ → List (List ℕ) → List Formula
+allRead s bytes [] = []
+allRead s bytes (b ∷ bs) = formulaRead s bytes (formulaNumber b) .formula ∷ allRead s bytes bs
+
+abbrev pub runBy : List Formula → List ℕ
+runBy [] = []
+runBy (f ∷ fs) = bytesOf f ++ runBy fs

@@ -13,6 +13,7 @@ use Rattle.layout.specs.Fields.{bytesAt, firstCount, fieldOf, shapeOf}
 use Rattle.layout.specs.Bytes.{frontBytes, framingBytes}
 use Rattle.records.specs.Faults.{frameFault, outside, countFault, sizeFault, lengthFault, orderFault, intervalFault, ownFault, wordsFault, valueFault, scaleFault}
 use Rattle.records.specs.Guard.{guard, refusal}
+use Rattle.records.specs.Refusals.{recordRefusals}
 use Rattle.walking.specs.Walking.{recordFault, faultAt, foundBy, walkFrom, walkOf}
 use Rattle.walking.specs.declared.Walked.{Walked}
 use Rattle.walking.specs.declared.Walked.the-variants.{Whole, Broken}
@@ -44,6 +45,10 @@ unfoldable pub sheetWriting : ℕ → List ℕ → ℕ → Writing
 sheetWriting s run room =
     guard (scaleFault s) refusedBy
     (cond (eqb (length run) 0) (refusedBy 4) (walkedWriting (runWalked s run) (length run) room))
+
+-- the refusals that it can give: those of a run's records, and 12
+abbrev pub sheetWriterRefusals : List ℕ
+sheetWriterRefusals = 12 ∷ recordRefusals
 
 -- one start, the run, one end with the same count
 abbrev pub sheetBytes : ℕ → List ℕ → List ℕ
