@@ -1,7 +1,7 @@
 -- Promise: the paper's number and place are the same whichever way a refusal is shown.
 use Rattle.whole.proofs.Basics.{_≡_, refl, ap, ℕ}
 use Rattle.formula.specs.declared.Formula.{Formula}
-use Rattle.records.specs.declared.Refusal.{Refusal}
+use Rattle.faults.specs.declared.Refusal.{Refusal}
 use Rattle.sheet.specs.Reader.{foundNumber, foundPlace}
 use Rattle.sheet.specs.declared.answers.Found.{Found}
 use Rattle.sheet.specs.declared.answers.Found.the-variants.{Given, Refused as Withheld}

@@ -1,8 +1,10 @@
 -- The checks of a formula record, cut where the code cuts them: the front, then the words and admission; and which codes are formulas'.
-use Rattle.whole.proofs.Basics.{_≡_, _∙_, refl, sym, ap, subst, Bool, true, false, List, ℕ, _-_, _/_, _≤_, arith, eqb, length, eqb-true, eqb-false}
+use Rattle.whole.proofs.Basics.{_≡_, _∙_, refl, sym, ap, subst, Bool, true, false, cond, List, ℕ, _-_, _/_, _≤_, arith, eqb, length, ℤ, eqb-true, eqb-false}
+use Rattle.word.specs.Lists.{Words}
 use Rattle.stored.specs.Words.{words, Stretch}
 use Rattle.admission.specs.Admission.{admissionNumber, Judged}
 use Rattle.admission.specs.declared.Admission.{Admission}
+use Rattle.admission.specs.declared.Admission.the-variants.{Admitted, RangeLeft, DivisorZero}
 use Rattle.formula.specs.declared.Kind.{Kind}
 use Rattle.formula.specs.declared.Kind.the-variants.{Polynomial, Rational, Fraction, Root, NoFormula}
 use Rattle.formula.specs.Formula.{mostOf, wordCount, admissionBy, admissionOf}
@@ -16,11 +18,12 @@ use Rattle.table.specs.declared.Class.the-variants.{StartRecord, FormulaRecord,
 use Rattle.table.specs.declared.Row.{Row}
 use Rattle.layout.specs.Fields.{codeOf, rowFor, formulaNumber, shapeOf, loOf, hiOf, wordsOf, Complete}
 use Rattle.layout.proofs.Complete.{complete, reach, by-length}
-use Rattle.records.specs.Guard.{orElse}
-use Rattle.records.specs.Faults.{lengthFault, orderFault, wordFault, wordsFault, intervalFault, ownFault, admissionFault, judgedFault, valueFault, formulaFault, frontFault, onlyFormula}
-use Rattle.records.proofs.Chain.{stop, pass, neither, or-assoc}
-use Rattle.records.proofs.Lengths.{laid}
-use Rattle.records.proofs.Values.{word, judged-fault}
+use Rattle.faults.specs.Guard.{orElse}
+use Rattle.faults.specs.Faults.{lengthFault, orderFault, wordFault, wordsFault, intervalFault, ownFault}
+use Rattle.faults.proofs.Chain.{stop, pass, neither, or-assoc}
+use Rattle.faults.proofs.Lengths.{laid}
+use Rattle.faults.proofs.Values.{word, each-word, all-words}
+use Rattle.records.specs.Records.{admissionFault, judgedFault, valueFault, formulaFault, frontFault, onlyFormula}
 
 module _ (s : ℕ) (r : Row) (b : List ℕ) (seen count next : ℕ) where
   -- 6 of the words, then 7 or 8
@@ -57,6 +60,23 @@ front-most r b seen count next e =
 -- so the record is complete
 pub front-complete : (r : Row) (b : List ℕ) (seen count next : ℕ) → Ruled r → r .class ≡ FormulaRecord → length b ≤ 120 → frontFault r b seen count next ≡ 0 → Complete r b
 front-complete r b seen count next u c n e = complete r b u c n (laid r b (front-length r b seen count next e))
+
+-- ---- by what admission has found: 6 of the words, then its number
+pub judged-fault : (ws : List ℤ) (a found : Admission) → Judged ws a found → judgedFault ws found ≡ orElse (wordsFault ws) (admissionNumber a)
+judged-fault ws a found j = at found refl
+  where
+    -- a number that refuses, where the words have no fault of their own
+    refuses : (n : ℕ) → (Words ws → n ≡ admissionNumber a) → orElse (wordsFault ws) n ≡ orElse (wordsFault ws) (admissionNumber a)
+    refuses n h = by (eqb (wordsFault ws) 0) refl
+      where
+        by : (t : Bool) → eqb (wordsFault ws) 0 ≡ t → cond t n (wordsFault ws) ≡ cond t (admissionNumber a) (wordsFault ws)
+        by true q = h (each-word ws (eqb-true _ _ q))
+        by false q = refl
+
+    at : (f : Admission) → found ≡ f → judgedFault ws f ≡ orElse (wordsFault ws) (admissionNumber a)
+    at Admitted e = let w = j .words e in pass refl (all-words ws w) (ap admissionNumber (sym e ∙ j .same w))
+    at RangeLeft e = refuses 7 (λ w. ap admissionNumber (sym e ∙ j .same w))
+    at DivisorZero e = refuses 8 (λ w. ap admissionNumber (sym e ∙ j .same w))
 
 -- ---- what a kind's own admission has found, over the record's words
 module _ (s : ℕ) (r : Row) (b : List ℕ) (d : Complete r b) where

@@ -1,8 +1,3 @@
 -- Laws, lowest first.
-pub mod Chain
-pub mod ScaleLaws
-pub mod Frames
-pub mod Lengths
-pub mod Values
 pub mod Soundness
 pub mod FormulaLaws

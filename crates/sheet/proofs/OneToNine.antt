@@ -16,9 +16,10 @@ use Rattle.table.specs.declared.Field.{Field}
 use Rattle.table.specs.declared.Row.{Row}
 use Rattle.table.specs.Table.{lengthBy}
 use Rattle.layout.specs.Fields.{rowFor, countOf, formulaNumber, loOf, hiOf, shapeOf, wordsOf}
-use Rattle.records.specs.Guard.{guard, orElse, refusal}
-use Rattle.records.specs.Faults.{frameFault, outside, countFault, sizeFault, lengthFault, startFault, scaleFault, orderFault, endFault, wordFault, wordsFault, intervalFault, kindFault, ownFault, valueFault, innerFault}
-use Rattle.records.specs.Refusals.{OneOf, recordRefusals, sheetRefusals}
+use Rattle.faults.specs.Guard.{guard, orElse, refusal}
+use Rattle.faults.specs.Faults.{frameFault, outside, countFault, sizeFault, lengthFault, startFault, scaleFault, orderFault, endFault, wordFault, wordsFault, intervalFault, kindFault, ownFault}
+use Rattle.faults.specs.Refusals.{OneOf, recordRefusals, sheetRefusals}
+use Rattle.records.specs.Records.{valueFault, innerFault}
 use Rattle.walking.specs.Walking.{placeFault, classFault, recordFault, recordHere, faultAt, begin, ending, onward, runDone, walkFrom, walkOf}
 use Rattle.walking.specs.declared.Walk.{Walk}
 use Rattle.walking.specs.declared.Walked.{Walked}

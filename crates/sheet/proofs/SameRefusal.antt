@@ -5,8 +5,8 @@ use Rattle.table.specs.declared.Class.{Class}
 use Rattle.table.specs.declared.Class.the-variants.{StartRecord, FormulaRecord, EndRecord, Unknown}
 use Rattle.table.specs.declared.Row.{Row}
 use Rattle.layout.specs.Fields.{rowFor}
-use Rattle.records.specs.Guard.{guard, refusal}
-use Rattle.records.specs.declared.Refusal.{Refusal}
+use Rattle.faults.specs.Guard.{guard, refusal}
+use Rattle.faults.specs.declared.Refusal.{Refusal}
 use Rattle.walking.specs.Walking.{walk, ending, classFault, recordFault, recordHere, faultAt, afterStart, afterFormula, begin, onward, walkFrom, walkOf}
 use Rattle.walking.specs.declared.Walk.{Walk}
 use Rattle.walking.specs.declared.Walked.{Walked}

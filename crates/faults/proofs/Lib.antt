@@ -1,0 +1,6 @@
+-- Laws, lowest first.
+pub mod Chain
+pub mod ScaleLaws
+pub mod Frames
+pub mod Lengths
+pub mod Values
