@@ -1,5 +1,5 @@
 -- A chain of faults, a link at a time.
-use Rattle.whole.proofs.Basics.{_≡_, refl, Bool, true, false, cond, ℕ, eqb, eqb-true, eqb-false, eq-eqb, ne-eqb}
+use Rattle.whole.proofs.Basics.{_≡_, refl, sym, Bool, true, false, cond, ℕ, eqb, eqb-true, eqb-false, eq-eqb, ne-eqb}
 use Rattle.faults.specs.Guard.{guard, orElse}
 
 -- code that stops at a fault, and code that goes past none
@@ -22,6 +22,14 @@ or-assoc a b c = at (eqb a 0) refl
     at : (t : Bool) → eqb a 0 ≡ t → cond (eqb (cond t b a) 0) c (cond t b a) ≡ cond t (cond (eqb b 0) c b) a
     at true e = refl
     at false e = rw e refl
+
+-- no fault behind the first adds nothing
+pub or-none : (a : ℕ) → orElse a 0 ≡ a
+or-none a = at (eqb a 0) refl
+  where
+    at : (t : Bool) → eqb a 0 ≡ t → cond t 0 a ≡ a
+    at true e = sym (eqb-true a 0 e)
+    at false e = refl
 
 -- ---- and back: what it says that there is no fault
 

@@ -1,3 +1,4 @@
 -- Laws, lowest first.
 pub mod Soundness
+pub mod Front
 pub mod FormulaLaws

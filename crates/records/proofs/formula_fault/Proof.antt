@@ -2,8 +2,8 @@
 use Rattle.whole.proofs.Basics.{_≡_, _∙_, refl, sym, ℕ, arith, now, needs}
 use Rattle.table.specs.Table.{rows, firstRow, rowOf}
 use Rattle.layout.specs.Fields.{codeOf}
-use Rattle.faults.proofs.Chain.{stop}
-use Rattle.records.proofs.FormulaLaws.{at-code, no-words, no-formula}
+use Rattle.faults.proofs.Chain.{stop, pass}
+use Rattle.records.proofs.FormulaLaws.{no-words, no-formula}
 use Rattle.records.proofs.formula_fault.Statement.{statement}
 use Rattle.records.proofs.formula_fault.Tie as tie
 
@@ -13,28 +13,21 @@ named c e = sym (c .code .ensures) ∙ e
 
 returns : tie.Need-returns
 unfolding rowOf firstRow rows
-returns c =
-    let a = c .before .before .before .before .args in
-    at-code (a .s) (now (a .b)) (a .seen) (a .count) (a .next) 0x0010 (named (c .before .before) (c .before .match .keys1)) refl (c .polynomial-fault .ensures)
+returns c = rw (named (c .before .before) (c .before .match .keys1)) (pass refl refl (c .polynomial-fault .ensures))
 
 returns-2 : tie.Need-returns-2
 unfolding rowOf firstRow rows
-returns-2 c =
-    let a = c .before .before .before .before .args in
-    at-code (a .s) (now (a .b)) (a .seen) (a .count) (a .next) 0x0011 (named (c .before .before) (c .before .match .keys2)) refl (c .rational-fault .ensures)
+returns-2 c = rw (named (c .before .before) (c .before .match .keys2)) (pass refl refl (c .rational-fault .ensures))
 
 returns-3 : tie.Need-returns-3
 unfolding rowOf firstRow rows
-returns-3 c =
-    let a = c .before .before .before .before .args in
-    at-code (a .s) (now (a .b)) (a .seen) (a .count) (a .next) 0x0012 (named (c .before .before) (c .before .match .keys3)) refl (c .fraction-fault .ensures)
+returns-3 c = rw (named (c .before .before) (c .before .match .keys3)) (pass refl refl (c .fraction-fault .ensures))
 
 returns-4 : tie.Need-returns-4
 unfolding rowOf firstRow rows
 returns-4 c =
     let a = c .before .before .before .before .args in
-    at-code (a .s) (now (a .b)) (a .seen) (a .count) (a .next) 0x0013 (named (c .before .before) (c .before .match .keys4)) refl
-    (c .root-fault .ensures ∙ no-words (a .s) (now (a .b)) (a .seen) (a .count) (a .next) (rowOf 0x0013) refl)
+    rw (named (c .before .before) (c .before .match .keys4)) (pass refl refl (c .root-fault .ensures ∙ no-words (a .s) (rowOf 0x0013) (now (a .b)) (a .seen) (a .count) (a .next) refl))
 
 returns-5 : tie.Need-returns-5
 returns-5 c =

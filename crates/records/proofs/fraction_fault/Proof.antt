@@ -1,102 +1,59 @@
 -- `records::fraction_fault` meets its contract: the front, then what the kind's own admission has found.
-use Rattle.whole.proofs.Basics.{_≡_, _∙_, refl, sym, ap, List, ℕ, arith, now, needs}
+use Rattle.whole.proofs.Basics.{_≡_, refl, arith, now, needs}
 use Rattle.formula.specs.declared.Kind.the-variants.{Fraction}
-use Rattle.table.specs.declared.Class.the-variants.{FormulaRecord}
-use Rattle.table.specs.declared.Row.{Row}
 use Rattle.table.specs.Table.{rows, firstRow, rowOf}
 use Rattle.table.proofs.Rule.{ruled}
-use Rattle.layout.specs.Fields.{shapeOf, Complete}
-use Rattle.records.specs.Records.{formulaFault}
-use Rattle.records.proofs.FormulaLaws.{front-stops, front-passes, front-complete, front-most, Found, reach-at, found-fault}
+use Rattle.records.proofs.Front.{Front, front-stops, whole, most-size, words-stand, front-passes}
 use Rattle.records.proofs.fraction_fault.Statement.{statement}
 use Rattle.records.proofs.fraction_fault.Tie as tie
 
--- the row that was found
-module _ (c : tie.After-row-of) where
-  abbrev r : Row
-  r = c .row-of .result
-
-  abbrev b : List ℕ
-  b = now (c .before .before .args .b)
-
-  kind-is : r .kind ≡ Fraction
-  unfolding rowOf firstRow rows
-  kind-is = rw (c .row-of .ensures) refl
-
-  class-is : r .class ≡ FormulaRecord
-  unfolding rowOf firstRow rows
-  class-is = rw (c .row-of .ensures) refl
-
-  -- a depth is at least 1
-  depth : r .p .least ≡ 1
-  unfolding rowOf firstRow rows
-  depth = rw (c .row-of .ensures) refl
-
 front-fault-requires : tie.Need-front-fault-requires
-front-fault-requires c κs = (rw (c .row-of .ensures) (ruled 0x0012), class-is c, c .before .before .pre .1)
+unfolding rowOf firstRow rows
+front-fault-requires c κs = rw (c .row-of .ensures) (ruled 0x0012, refl, c .before .before .pre .1)
 
--- the fault of that row is the fault of the code's
-carried : (c : tie.After-row-of) {f : ℕ} →
-    let a = c .before .before .args in
-    f ≡ formulaFault (a .s) (r c) (b c) (a .seen) (a .count) (a .next) → f ≡ formulaFault (a .s) (rowOf 0x0012) (b c) (a .seen) (a .count) (a .next)
-carried c e =
-    let a = c .before .before .args in
-    e ∙ ap (λ (x : Row). formulaFault (a .s) x (b c) (a .seen) (a .count) (a .next)) (c .row-of .ensures)
+-- the front, by the row that was found
+front : (c : tie.After-front-fault) →
+    let a = c .before .before .before .args in
+    Front 0x0012 Fraction (c .before .row-of .result) (now (a .b)) (a .seen) (a .count) (a .next) (c .front-fault .result)
+unfolding rowOf firstRow rows
+front c = record { row = c .before .row-of .ensures; class = refl; kind = refl; short = c .before .before .before .pre .1; fault = c .front-fault .ensures }
 
 returns : tie.Need-returns
-returns c =
-    let w = c .before .before in
-    let a = w .before .before .args in
-    carried w (front-stops (a .s) (r w) (b w) (a .seen) (a .count) (a .next) (c .before .front-fault .ensures) (c .if1 .taken))
-
--- past the front the record is complete
-whole : (c : tie.Else1) → Complete (r (c .before .before)) (b (c .before .before))
-whole c =
-    let w = c .before .before in
-    let s = w .before .before in
-    front-complete (r w) (b w) (s .args .seen) (s .args .count) (s .args .next) (rw (w .row-of .ensures) (ruled 0x0012)) (class-is w) (s .pre .1) (sym (c .before .front-fault .ensures) ∙ c .if1 .left)
+returns c = front-stops (c .before .before .before .before .args .s) (front (c .before)) (c .if1 .taken)
 
 shape-of-requires : tie.Need-shape-of-requires
-shape-of-requires c κs = let d = whole c in (d .ruled, omega (arith, d .laid .exact), d .most)
+shape-of-requires c κs = let d = whole (front (c .before)) (c .if1 .left) in (d .ruled, omega (arith, d .laid .exact), d .most)
 
 most-requires : tie.Need-most-requires
-most-requires c κs = whole (c .before .before .before) .least
+most-requires c κs = let e = c .before .before .before in whole (front (e .before)) (e .if1 .left) .least
 
--- what admission is handed: the counts of the record's own shape
-shaped : (c : tie.After-shape-of) → c .shape-of .result ≡ shapeOf (r (c .before .before .before)) (b (c .before .before .before))
-shaped c = c .shape-of .ensures
+-- a depth is at least 1
+depth : (c : tie.After-row-of) → c .row-of .result .p .least ≡ 1
+unfolding rowOf firstRow rows
+depth c = rw (c .row-of .ensures) refl
 
 admit-requires : tie.Need-admit-requires
 admit-requires c κs =
     let h = c .before .before .before in
     let e = h .before in
     let w = e .before .before in
-    let d = whole e in
-    let a = w .before .before .args in
-    rw (shaped h) (
-      reach-at (a .s) (r w) (b w) d Fraction (kind-is w),
-      (w .before .before .pre .0, omega (arith, depth w, d .laid .p .0)),
-      omega (arith, c .most .ensures, front-most (r w) (b w) (a .seen) (a .count) (a .next) (sym (e .before .front-fault .ensures) ∙ e .if1 .left)),
+    let f = front (e .before) in
+    rw (h .shape-of .ensures) (
+      words-stand f (e .if1 .left),
+      (w .before .before .pre .0, omega (arith, depth w, whole f (e .if1 .left) .laid .p .0)),
+      omega (arith, c .most .ensures, most-size f (e .if1 .left)),
     )
 
 admission-fault-requires : tie.Need-admission-fault-requires
-admission-fault-requires c κs = omega (arith, whole (c .before .before .before .before .before) .laid .exact)
-
-found : (c : tie.After-admit) →
-    let e = c .before .before .before .before .before in
-    let w = e .before .before in
-    Found (w .before .before .args .s) (r w) (b w) (whole e) Fraction (c .admit .result)
-found c =
-    let h = c .before .before .before .before in
-    rw (shaped h, c .before .most .ensures) at (c .admit .ensures)
+admission-fault-requires c κs = let e = c .before .before .before .before .before in omega (arith, whole (front (e .before)) (e .if1 .left) .laid .exact)
 
 returns-2 : tie.Need-returns-2
 returns-2 c =
-    let e = c .before .before .before .before .before .before in
-    let w = e .before .before in
-    let a = w .before .before .args in
-    carried w (front-passes (a .s) (r w) (b w) (a .seen) (a .count) (a .next) (e .before .front-fault .ensures) (e .if1 .left)
-    (c .admission-fault .ensures ∙ found-fault (a .s) (r w) (b w) (whole e) Fraction (c .before .admit .result) (kind-is w) (found (c .before))))
+    let a = c .before in
+    let h = a .before .before .before .before in
+    let e = h .before in
+    let s = e .before .before .before .before .args .s in
+    front-passes (front (e .before)) (e .if1 .left) s (a .admit .result) (c .admission-fault .ensures) (rw (h .shape-of .ensures, a .before .most .ensures) at (a .admit .ensures))
 
 pub fraction-fault-spec : {M : Type 1} → statement M
 fraction-fault-spec =

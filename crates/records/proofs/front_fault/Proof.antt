@@ -1,20 +1,16 @@
 -- `records::front_fault` meets its contract: the links of its chain, the first of them in two parts.
 use Rattle.whole.proofs.Basics.{_≡_, _≤_, arith, length, now, needs, lt-ltb, le-ltb}
 use Rattle.stored.proofs.Back.{back}
-use Rattle.layout.specs.Fields.{shapeOf, loOf, hiOf, formulaNumber}
-use Rattle.faults.specs.Faults.{lengthFault, orderFault, ownFault}
+use Rattle.layout.specs.Fields.{formulaNumber}
+use Rattle.faults.specs.Faults.{lengthFault, orderFault}
 use Rattle.faults.proofs.Chain.{stop, pass}
 use Rattle.records.specs.Records.{frontFault}
 use Rattle.records.proofs.front_fault.Statement.{statement}
 use Rattle.records.proofs.front_fault.Tie as tie
 
-short : (c : tie.Then1) → 2 ≡ lengthFault (c .before .before .before .args .row) (now (c .before .before .before .args .b))
-unfolding lengthFault
-short c = simp (lt-ltb _ _ (c .if1 .taken))
-
 returns : tie.Need-returns
-unfolding frontFault
-returns c = stop _ (short c) (λ z. omega arith)
+unfolding frontFault lengthFault
+returns c = simp (lt-ltb _ _ (c .if1 .taken))
 
 -- a formula's own fields stand in its head
 long : (c : tie.Else1) → 16 ≤ length (now (c .before .before .before .args .b))
@@ -34,9 +30,6 @@ returns-2 : tie.Need-returns-2
 unfolding frontFault
 returns-2 c = stop _ (exact (c .before)) (c .if2 .taken)
 
-number-requires : tie.Need-number-requires
-number-requires c κs = omega (arith, long (c .before .before .before))
-
 order : (c : tie.After-order-fault) →
     let a = c .before .before .before .before .before .before .before .before .args in
     c .order-fault .result ≡ orderFault (a .seen) (a .count) (a .next) (formulaNumber (now (a .b)))
@@ -48,27 +41,15 @@ returns-3 c =
     let e = c .before .before .before in
     pass (exact (e .before)) (e .if2 .left) (stop _ (order (c .before)) (c .if3 .taken))
 
-lo-requires : tie.Need-lo-requires
-lo-requires c κs = long (c .before .before .before .before .before .before)
-
-hi-requires : tie.Need-hi-requires
-hi-requires c κs = long (c .before .before .before .before .before .before .before)
-
--- 6 of the record's own values but the words
-own : (c : tie.After-own-fault) →
-    let a = c .before .before .before .before .before .before .before .before .before .before .before .before .args in
-    c .own-fault .result ≡ ownFault (a .row) (shapeOf (a .row) (now (a .b))) (loOf (now (a .b))) (hiOf (now (a .b)))
-own c =
-    let h = c .before in
-    let e = h .before .before .before .before .before in
-    rw (e .before .before .shape-of .ensures, back (search needs) (h .before .lo .ensures), back (search needs) (h .hi .ensures)) at (c .own-fault .ensures)
-
 returns-4 : tie.Need-returns-4
 unfolding frontFault
 returns-4 c =
-    let o = c .before .before .before in
+    let h = c .before in
+    let o = h .before .before in
     let e = o .before .before .before in
-    pass (exact (e .before)) (e .if2 .left) (pass (order (o .before)) (o .if3 .left) (own c))
+    let w = e .before .before in
+    pass (exact (e .before)) (e .if2 .left) (pass (order (o .before)) (o .if3 .left)
+    (rw (w .shape-of .ensures, back (search needs) (h .before .lo .ensures), back (search needs) (h .hi .ensures)) at (c .own-fault .ensures)))
 
 pub front-fault-spec : {M : Type 1} → statement M
 front-fault-spec =
@@ -78,10 +59,10 @@ front-fault-spec =
     (λ c κs. search needs)
     (λ c κs. search needs)
     returns-2
-    number-requires
+    (λ c κs. omega (arith, long (c .before .before .before)))
     (λ c κs. search needs)
     returns-3
-    lo-requires
-    hi-requires
+    (λ c κs. long (c .before .before .before .before .before .before))
+    (λ c κs. long (c .before .before .before .before .before .before .before))
     (λ c κs. search needs)
     returns-4)
