@@ -1,12 +1,12 @@
 -- The stored values of a formula: tests of words, one by one, and what they say of a whole list.
-use Rattle.whole.proofs.Basics.{_≡_, refl, sym, ap, subst, Bool, true, false, cond, List, [], _∷_, ℕ, suc, zero, _+_, _≤_, _<_, arith, T, ltb, length, drop, getD, ℤ, pos, negsuc, natAbs, ltZ, w32, SFits, ltb-true, ltb-false, lt-ltb, le-ltb}
-use native.Mathlib.Numerals.{add-one}
-use lib.Seq.{drop-cons}
+use Rattle.whole.proofs.Basics.{_≡_, refl, sym, ap, subst, Bool, true, false, cond, List, [], _∷_, ℕ, suc, zero, _+_, _-_, _*_, _≤_, _<_, arith, T, ltb, ℤ, pos, negsuc, natAbs, ltZ, w32, SFits, ltb-true, ltb-false, lt-ltb, le-ltb}
 use Rattle.word.specs.Words.{Word}
 use Rattle.word.specs.Lists.{Words}
+use Rattle.stored.specs.Numbers.{word4}
+use Rattle.stored.specs.Words.{words}
 use Rattle.faults.specs.Guard.{orElse}
 use Rattle.faults.specs.Faults.{wordFault, wordsFault, intervalFault}
-use Rattle.faults.proofs.Chain.{halts, goes, pass, passed, neither}
+use Rattle.faults.proofs.Chain.{pass, passed, neither}
 
 -- below the least word is the same as no word
 pub no-word : (z : ℤ) → SFits w32 z → ltZ z (negsuc 2147483646) ≡ ltb 2147483647 (natAbs z)
@@ -39,15 +39,14 @@ ends-fault lo hi f e = sym (pass refl e (at (ltZ hi lo) refl))
     at true o = six (ltb 2147483647 (natAbs hi))
     at false o = pass refl (not-below-word lo hi f e o) refl
 
--- a turn of the loop over words: the word at i is at fault, or it is not
-module _ (l : List ℤ) (i : ℕ) (h : i < length l) where
-  pub word-bad : {r : ℕ} → r ≡ wordFault (getD l i (pos 0)) → (r ≡ 0 → ⊥) → r ≡ wordsFault (drop i l)
-  unfolding wordsFault
-  word-bad e n = rw (drop-cons l i (pos 0) h) (halts (λ (k : ℕ). k) _ e n refl)
-
-  pub word-good : {r : ℕ} → r ≡ wordFault (getD l i (pos 0)) → r ≡ 0 → wordsFault (drop i l) ≡ wordsFault (drop (i + 1) l)
-  unfolding wordsFault
-  word-good e z = rw (add-one i, drop-cons l i (pos 0) h) (sym (goes (λ (k : ℕ). k) e z refl))
+-- the words that are still to come: the next, and those behind it
+pub next-word : (b : List ℕ) (at m i : ℕ) → i < m
+    → wordsFault (words b (at + 4 * i) (m - i)) ≡ orElse (wordFault (word4 b (at + 4 * i))) (wordsFault (words b (at + 4 * (i + 1)) (m - (i + 1))))
+unfolding words wordsFault
+next-word b at m i h =
+    let n : m - i ≡ suc (m - (i + 1)) = omega arith in
+    let p : at + 4 * (i + 1) ≡ at + 4 * i + 4 = omega arith in
+    rw (n, p) refl
 
 -- ---- of a whole list: no fault is that all are words
 

@@ -4,17 +4,11 @@ use Rattle.faults.specs.Faults.{scaleFault}
 use Rattle.faults.proofs.scale_fault.Statement.{statement}
 use Rattle.faults.proofs.scale_fault.Tie as tie
 
-returns : tie.Need-returns
-unfolding scaleFault
-returns c = simp (lt-ltb _ _ (c .if1 .taken))
-
-returns-2 : tie.Need-returns-2
-unfolding scaleFault
-returns-2 c = simp (le-ltb _ _ (c .before .if1 .left), lt-ltb _ _ (c .if2 .taken))
-
-returns-3 : tie.Need-returns-3
-unfolding scaleFault
-returns-3 c = simp (le-ltb _ _ (c .before .if1 .left), le-ltb _ _ (c .if2 .left))
-
 pub scale-fault-spec : {M : Type 1} → statement M
-scale-fault-spec = tie.close (tie.spec returns returns-2 returns-3)
+unfolding scaleFault
+scale-fault-spec =
+    tie.close
+    (tie.spec
+    (λ c. simp (lt-ltb _ _ (c .if1 .taken)))
+    (λ c. simp (le-ltb _ _ (c .before .if1 .left), lt-ltb _ _ (c .if2 .taken)))
+    (λ c. simp (le-ltb _ _ (c .before .if1 .left), le-ltb _ _ (c .if2 .left))))

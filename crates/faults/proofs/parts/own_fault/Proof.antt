@@ -1,6 +1,6 @@
 -- `faults::parts::own_fault` meets its contract: the three links of its chain.
 use Rattle.whole.proofs.Basics.{_≡_, toZ-ofZ, needs}
-use Rattle.faults.specs.Faults.{intervalFault, kindFault, ownFault}
+use Rattle.faults.specs.Faults.{intervalFault, ownFault}
 use Rattle.faults.proofs.Chain.{stop, pass}
 use Rattle.faults.proofs.parts.own_fault.Statement.{statement}
 use Rattle.faults.proofs.parts.own_fault.Tie as tie
@@ -8,12 +8,6 @@ use Rattle.faults.proofs.parts.own_fault.Tie as tie
 -- the first link, of the numbers that were handed in
 interval : (c : tie.After-interval-fault) → c .interval-fault .result ≡ intervalFault (c .before .args .lo) (c .before .args .hi)
 interval c = rw (toZ-ofZ (c .before .fits .lo), toZ-ofZ (c .before .fits .hi)) at (c .interval-fault .ensures)
-
--- and the third
-kind : (c : tie.After-kind-fault) →
-    let s = c .before .before .before .before .before .before in
-    c .kind-fault .result ≡ kindFault (s .args .row .kind) (s .args .lo)
-kind c = rw (toZ-ofZ (c .before .before .before .before .before .before .fits .lo)) at (c .kind-fault .ensures)
 
 returns : tie.Need-returns
 unfolding ownFault
@@ -30,7 +24,8 @@ unfolding ownFault
 returns-3 c =
     let m = c .before in
     let i = m .before .before .before in
-    pass (interval (i .before)) (i .if1 .left) (pass (m .before .outside .ensures) (m .if2 .left) (kind c))
+    pass (interval (i .before)) (i .if1 .left)
+    (pass (m .before .outside .ensures) (m .if2 .left) (rw (toZ-ofZ (i .before .before .fits .lo)) at (c .kind-fault .ensures)))
 
 pub own-fault-spec : {M : Type 1} → statement M
 own-fault-spec =

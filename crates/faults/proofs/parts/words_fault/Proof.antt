@@ -1,60 +1,55 @@
 -- `faults::parts::words_fault` meets its contract. The invariant: the fault of all the words is that of the words still to come.
-use Rattle.whole.proofs.Basics.{_≡_, _∙_, refl, sym, ap, _-_, _≤_, _<_, arith, length, drop, getD, pos, now, needs}
-use lib.ListN.{drop-of-length-le}
+use Rattle.whole.proofs.Basics.{_≡_, _∙_, refl, sym, ap, _+_, _-_, _*_, _≤_, arith, now, needs}
+use Rattle.stored.specs.Numbers.{word4}
 use Rattle.stored.specs.Words.{words}
 use Rattle.stored.proofs.Back.{back}
-use Rattle.stored.proofs.WordsLaws.{length-words, word-at}
+use Rattle.faults.specs.Guard.{orElse}
 use Rattle.faults.specs.Faults.{wordFault, wordsFault}
-use Rattle.faults.proofs.Values.{word-bad, word-good}
+use Rattle.faults.proofs.Chain.{stop, pass}
+use Rattle.faults.proofs.Values.{next-word}
 use Rattle.faults.proofs.parts.words_fault.Statement.{statement}
 use Rattle.faults.proofs.parts.words_fault.Tie as tie
 
 abbrev Inv-loop : tie.InvT-loop
-Inv-loop b at m i₀ i = (i ≤ m) × (wordsFault (words b at m) ≡ wordsFault (drop i (words b at m)))
+Inv-loop b at m i₀ i = (i ≤ m) × (wordsFault (words b at m) ≡ wordsFault (words b (at + 4 * i) (m - i)))
 
 abbrev μ-loop : tie.MeasureT-loop
 μ-loop b at m i₀ i = m - i
 
 loop-holds : tie.Need-loop-holds Inv-loop μ-loop
-loop-holds c = (search needs, refl)
+loop-holds c =
+    let a = c .before .args in
+    let e : a .at + 4 * 0 ≡ a .at = omega arith in
+    let n : a .m - 0 ≡ a .m = omega arith in
+    (search needs, rw (e, n) refl)
 
--- the fault of the word that was read
-fault : (c : tie.After-word-fault Inv-loop μ-loop) →
-    let l = c .before .before .before in
-    let a = l .before .before .args in
-    c .word-fault .result ≡ wordFault (getD (words (now (a .b)) (a .at) (a .m)) (l .loop .i) (pos 0))
-fault c =
-    let l = c .before .before .before in
-    let a = l .before .before .args in
-    c .word-fault .ensures ∙ ap wordFault (back (search needs) (c .before .get-word .ensures) ∙ sym (word-at (now (a .b)) (a .at) (a .m) (l .loop .i) (c .before .before .loop-test .taken)))
+-- the fault of the word that was read, and of the words from there on
+module _ (c : tie.After-word-fault Inv-loop μ-loop) where
+  fault :
+      let l = c .before .before .before in
+      c .word-fault .result ≡ wordFault (word4 (now (l .before .before .args .b)) (l .before .before .args .at + 4 * l .loop .i))
+  fault = c .word-fault .ensures ∙ ap wordFault (back (search needs) (c .before .get-word .ensures))
 
-inside : (c : tie.After-word-fault Inv-loop μ-loop) →
-    let l = c .before .before .before in
-    let a = l .before .before .args in
-    l .loop .i < length (words (now (a .b)) (a .at) (a .m))
-inside c =
-    let a = c .before .before .before .before .before .args in
-    omega (arith, length-words (now (a .b)) (a .at) (a .m), c .before .before .loop-test .taken)
+  from :
+      let l = c .before .before .before in
+      let a = l .before .before .args in
+      wordsFault (words (now (a .b)) (a .at) (a .m)) ≡ orElse (wordFault (word4 (now (a .b)) (a .at + 4 * l .loop .i))) (wordsFault (words (now (a .b)) (a .at + 4 * (l .loop .i + 1)) (a .m - (l .loop .i + 1))))
+  from =
+      let l = c .before .before .before in
+      let a = l .before .before .args in
+      l .loop .inv .1 ∙ next-word (now (a .b)) (a .at) (a .m) (l .loop .i) (c .before .before .loop-test .taken)
 
 returns : tie.Need-returns Inv-loop μ-loop
-returns c =
-    let l = c .before .before .before .before in
-    let a = l .before .before .args in
-    word-bad (words (now (a .b)) (a .at) (a .m)) (l .loop .i) (inside (c .before)) (fault (c .before)) (c .if1 .taken) ∙ sym (l .loop .inv .1)
+returns c = stop _ (fault (c .before)) (c .if1 .taken) ∙ sym (from (c .before))
 
 loop-again : tie.Need-loop-again Inv-loop μ-loop
-loop-again c =
-    let l = c .before .before .before .before in
-    let a = l .before .before .args in
-    (search needs, l .loop .inv .1 ∙ word-good (words (now (a .b)) (a .at) (a .m)) (l .loop .i) (inside (c .before)) (fault (c .before)) (c .if1 .left))
+loop-again c = (search needs, from (c .before) ∙ sym (pass (fault (c .before)) (c .if1 .left) refl))
 
 returns-2 : tie.Need-returns-2 Inv-loop μ-loop
-unfolding wordsFault
+unfolding words wordsFault
 returns-2 c =
-    let l = c .before .loop in
-    let a = c .before .before .before .args in
-    let e = drop-of-length-le (words (now (a .b)) (a .at) (a .m)) {i = l .i} (omega (arith, length-words (now (a .b)) (a .at) (a .m), c .loop-test .left)) in
-    sym (rw e at (l .inv .1))
+    let e : c .before .before .before .args .m - c .before .loop .i ≡ 0 = omega (arith, c .loop-test .left) in
+    sym (rw e at (c .before .loop .inv .1))
 
 pub words-fault-spec : {M : Type 1} → statement M
 words-fault-spec =
