@@ -1,7 +1,7 @@
 -- From the place that the reader answers to what the board answers.
 use Rattle.whole.proofs.Basics.{_≡_, refl, sym, ap, subst, List, ℕ}
 use Rattle.formula.specs.declared.Formula.{Formula}
-use Rattle.records.specs.declared.Refusal.{Refusal}
+use Rattle.faults.specs.declared.Refusal.{Refusal}
 use Rattle.sheet.specs.Reader.{formulaPlace, formulaAt, readAt, formulaRead}
 use Rattle.sheet.specs.declared.answers.Place.{Place}
 use Rattle.sheet.specs.declared.answers.Place.the-variants.{At, Refused as Absent}

@@ -2,7 +2,7 @@
 use Rattle.whole.proofs.Basics.{_≡_, refl, ap, ℕ, ℤ}
 use Rattle.formula.specs.declared.Formula.{Formula}
 use Rattle.door.specs.Exact.{Exactly}
-use Rattle.records.specs.declared.Refusal.{Refusal}
+use Rattle.faults.specs.declared.Refusal.{Refusal}
 use Rattle.sheet.specs.Reader.{foundNumber, foundPlace}
 use Rattle.sheet.specs.declared.answers.Found.{Found}
 use Rattle.sheet.specs.declared.answers.Found.the-variants.{Given, Refused as Withheld}

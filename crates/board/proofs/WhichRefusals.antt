@@ -9,9 +9,9 @@ use Rattle.door.specs.declared.answer.Ends.{Ends}
 use Rattle.door.specs.declared.answer.Taken.{Taken}
 use Rattle.door.specs.declared.answer.Taken.the-variants.{Word as Took, NoWord, NotFinite}
 use Rattle.layout.specs.Plain.{wordsIn}
-use Rattle.records.specs.Refusals.{OneOf}
-use Rattle.records.specs.declared.Refusal.{Refusal}
-use Rattle.records.proofs.FaultSets.{one-of}
+use Rattle.faults.specs.Refusals.{OneOf}
+use Rattle.faults.specs.declared.Refusal.{Refusal}
+use Rattle.faults.proofs.FaultSets.{one-of}
 use Rattle.sheet.specs.Reader.{readerRefusals, foundNumber, formulaRead}
 use Rattle.sheet.specs.declared.answers.Found.{Found}
 use Rattle.sheet.specs.declared.answers.Found.the-variants.{Given, Refused as Withheld}

@@ -16,7 +16,7 @@ use Rattle.door.specs.declared.answer.Taken.{Taken}
 use Rattle.door.specs.declared.answer.Taken.the-variants.{Word, NoWord, NotFinite}
 use Rattle.door.specs.Taken.{takenOf, takenNumber, takenPlace}
 use Rattle.door.specs.Exact.{Exactly}
-use Rattle.records.specs.Guard.{refusal}
+use Rattle.faults.specs.Guard.{refusal}
 use Rattle.layout.specs.Plain.{wordsIn}
 use Rattle.sheet.specs.Reader.{readerRefusals, formulaRead}
 use Rattle.sheet.specs.declared.answers.Found.{Found}

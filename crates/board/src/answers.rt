@@ -1,6 +1,6 @@
 // What the board answers. specs/Board.antt gives the paper's number, place and values of each case.
 use door::answer::Ends;
-use records::Refusal;
+use faults::Refusal;
 
 // An answer on words: a struct, so that more can be told beside the word.
 pub struct Worked {

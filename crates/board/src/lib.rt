@@ -16,8 +16,8 @@ use answers::Interval;
 use answers::Shown;
 use answers::Worked;
 use door::answer::Taken;
+use faults::Refusal;
 use layout::fields;
-use records::Refusal;
 use sheet::answers::Place;
 use sheet::reader;
 

@@ -1,7 +1,7 @@
 -- From what the board shows as doubles to what C is given, case by case.
 use Rattle.whole.proofs.Basics.{refl, ap, ℕ}
 use Rattle.formula.specs.declared.Formula.{Formula}
-use Rattle.records.specs.declared.Refusal.{Refusal}
+use Rattle.faults.specs.declared.Refusal.{Refusal}
 use Rattle.sheet.specs.declared.answers.Found.{Found}
 use Rattle.sheet.specs.declared.answers.Found.the-variants.{Given, Refused as Withheld}
 use Rattle.board.specs.Board.{ShownAs, IntervalBy}

@@ -7,8 +7,8 @@ use Rattle.stored.proofs.NumberLaws.{number4-more}
 use Rattle.table.specs.declared.Class.the-variants.{FormulaRecord}
 use Rattle.layout.specs.Fields.{bytesAt, Reaches}
 use Rattle.layout.proofs.Cut.{length-bytesAt}
+use Rattle.faults.proofs.Frames.{framed, reaches}
 use Rattle.records.specs.Sheets.{FormulaBytes, EachFormula, inLine, SheetOf}
-use Rattle.records.proofs.Frames.{framed, reaches}
 use Rattle.walking.proofs.Records.{frame-there, bytes-there}
 use Rattle.sheet.specs.declared.answers.FormulaCount.{FormulaCount}
 use Rattle.sheet.specs.declared.answers.FormulaCount.the-variants.{Count}

@@ -13,8 +13,9 @@ use Rattle.formula.specs.declared.Kind.the-variants.{Polynomial, Rational, Frac
 use Rattle.formula.specs.declared.Formula.{Formula}
 use Rattle.table.specs.Table.{rows, firstRow, rowOf, piecesBy}
 use Rattle.layout.specs.Fields.{bytesAt, firstCount, fieldOf, shape, shapeOf, padded, formula, formulaOf}
-use Rattle.records.specs.Faults.{frameFault, outside, countFault, sizeFault, lengthFault, startFault, scaleFault, orderFault, endFault, valueFault, ownFault, intervalFault, wordsFault}
-use Rattle.records.specs.declared.Refusal.{Refusal}
+use Rattle.faults.specs.Faults.{frameFault, outside, countFault, sizeFault, lengthFault, startFault, scaleFault, orderFault, endFault, ownFault, intervalFault, wordsFault}
+use Rattle.faults.specs.declared.Refusal.{Refusal}
+use Rattle.records.specs.Records.{valueFault}
 use Rattle.walking.specs.Walking.{recordFault, faultAt, foundBy, ending, walkFrom, walkOf}
 use Rattle.sheet.specs.declared.answers.FormulaCount.{FormulaCount}
 use Rattle.sheet.specs.declared.answers.FormulaCount.the-variants.{Count, Refused}

@@ -7,9 +7,9 @@ ghost use Rattle.stored.specs.Numbers.{number4};
 ghost use Rattle.sheet.specs.Reader.{formulaCount, formulaIn};
 ghost use Rattle.text.specs.Text.{Puts};
 ghost use Rattle.lines.specs.Listing.{places, kindName, intervalText, lineOf, linesFrom, countLine, refusalLine, listing};
+use faults::Refusal;
 use formula::Kind;
 use layout::fields;
-use records::Refusal;
 use sheet::answers::FormulaCount;
 use sheet::reader;
 

@@ -6,9 +6,10 @@ use Rattle.table.specs.declared.Class.the-variants.{FormulaRecord}
 use Rattle.table.specs.Table.{lengthBy}
 use Rattle.layout.specs.Plain.{Handed, wordsIn, plainBy, rowBy, plain}
 use Rattle.layout.proofs.RecordBack.{Tidy}
-use Rattle.records.specs.Guard.{guard}
-use Rattle.records.specs.Faults.{countFault, valueFault, scaleFault, onlyFormula}
-use Rattle.records.proofs.ScaleLaws.{good-scale}
+use Rattle.faults.specs.Guard.{guard}
+use Rattle.faults.specs.Faults.{countFault, scaleFault}
+use Rattle.faults.proofs.ScaleLaws.{good-scale}
+use Rattle.records.specs.Records.{valueFault, onlyFormula}
 use Rattle.records.proofs.FormulaLaws.{only-formula}
 use Rattle.record_writer.specs.Answers.{writingNumber, refusedBy}
 use Rattle.record_writer.specs.RecordWriter.{roomWriting, plainWriting, recordWriting}

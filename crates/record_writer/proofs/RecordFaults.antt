@@ -8,10 +8,11 @@ use Rattle.layout.specs.Plain.{wordsIn}
 use Rattle.layout.specs.Bytes.{recordBytes}
 use Rattle.layout.proofs.RecordLaws.{length-record}
 use Rattle.layout.proofs.RecordBack.{Tidy, shape-again, lo-again, hi-again, words-again, size-again, row-back}
-use Rattle.records.specs.Guard.{orElse}
-use Rattle.records.specs.Faults.{countFault, sizeFault, lengthFault, orderFault, valueFault, innerFault, formulaFault, onlyFormula}
+use Rattle.faults.specs.Guard.{orElse}
+use Rattle.faults.specs.Faults.{countFault, sizeFault, lengthFault, orderFault}
+use Rattle.faults.proofs.Chain.{pass}
+use Rattle.records.specs.Records.{valueFault, innerFault, formulaFault, onlyFormula}
 use Rattle.records.specs.Sheets.{FormulaBytes}
-use Rattle.records.proofs.Chain.{pass}
 
 module _ (r : Row) (f : Formula) (d : Tidy r f) where
   pub short-record : (16 ≤ length (recordBytes r f)) × (length (recordBytes r f) ≤ 120)

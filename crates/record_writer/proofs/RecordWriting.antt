@@ -12,10 +12,11 @@ use Rattle.layout.specs.Bytes.{Ready}
 use Rattle.layout.proofs.RecordLaws.{length-record}
 use Rattle.layout.proofs.RecordBack.{Tidy}
 use Rattle.layout.proofs.HandedLaws as handed
-use Rattle.records.specs.Guard.{guard}
-use Rattle.records.specs.Faults.{countFault, valueFault, scaleFault, onlyFormula}
-use Rattle.records.proofs.Chain.{halts, goes}
-use Rattle.records.proofs.Lengths.{counted}
+use Rattle.faults.specs.Guard.{guard}
+use Rattle.faults.specs.Faults.{countFault, scaleFault}
+use Rattle.faults.proofs.Chain.{halts, goes}
+use Rattle.faults.proofs.Lengths.{counted}
+use Rattle.records.specs.Records.{valueFault, onlyFormula}
 use Rattle.record_writer.specs.Answers.{writingPlace, refusedBy}
 use Rattle.record_writer.specs.RecordWriter.{roomWriting, plainWriting, recordWriting, judgedWriting, bytesOf}
 use Rattle.record_writer.specs.declared.answers.Writing.{Writing}

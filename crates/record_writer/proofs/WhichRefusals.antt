@@ -6,10 +6,12 @@ use Rattle.table.specs.declared.Class.the-variants.{StartRecord, FormulaRecord,
 use Rattle.table.specs.declared.Row.{Row}
 use Rattle.table.specs.Table.{lengthBy}
 use Rattle.layout.specs.Plain.{wordsIn, rowBy, plain}
-use Rattle.records.specs.Guard.{guard}
-use Rattle.records.specs.Faults.{countFault, valueFault, scaleFault, onlyFormula}
-use Rattle.records.specs.Refusals.{OneOf}
-use Rattle.records.proofs.FaultSets.{among, one-of, Fault, count-set, scale-set, value-set}
+use Rattle.faults.specs.Guard.{guard}
+use Rattle.faults.specs.Faults.{countFault, scaleFault}
+use Rattle.records.specs.Records.{valueFault, onlyFormula}
+use Rattle.faults.specs.Refusals.{OneOf}
+use Rattle.faults.proofs.FaultSets.{among, one-of, Fault, count-set, scale-set}
+use Rattle.records.proofs.ValueSets.{value-set}
 use Rattle.record_writer.specs.Answers.{writingNumber, refusedBy}
 use Rattle.record_writer.specs.RecordWriter.{roomWriting, plainWriting, recordWriting, recordWriterRefusals}
 use Rattle.record_writer.specs.declared.answers.Writing.{Writing}

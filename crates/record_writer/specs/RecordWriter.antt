@@ -17,8 +17,9 @@ use Rattle.table.specs.Codes.{codeFor}
 use Rattle.layout.specs.Fields.{shape, formula, padded, rowFor}
 use Rattle.layout.specs.Plain.{wordsIn, kept, plainShape, plainBy, rowBy, plain}
 use Rattle.layout.specs.Bytes.{frontBytes, headBytes, fieldBytes, fieldsBytes, wordBytes, recordBytes}
-use Rattle.records.specs.Guard.{guard, orElse}
-use Rattle.records.specs.Faults.{outside, countFault, intervalFault, wordsFault, ownFault, valueFault, scaleFault, onlyFormula, formulaFault}
+use Rattle.faults.specs.Guard.{guard, orElse}
+use Rattle.faults.specs.Faults.{outside, countFault, intervalFault, wordsFault, ownFault, scaleFault}
+use Rattle.records.specs.Records.{valueFault, onlyFormula, formulaFault}
 use Rattle.record_writer.specs.Answers.{refusedBy}
 use Rattle.record_writer.specs.declared.answers.Writing.{Writing}
 use Rattle.record_writer.specs.declared.answers.Writing.the-variants.{Written}

@@ -1,7 +1,7 @@
 // What a writer answers: how many bytes it has written, or why it has written none.
 ghost use mathlib.Core.Path.{_≡_};
 ghost use Rattle.record_writer.specs.Answers.{refusedBy};
-use records::Refusal;
+use faults::Refusal;
 
 pub enum Writing {
     Written(usize),

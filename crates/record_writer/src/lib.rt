@@ -7,17 +7,17 @@ ghost use Rattle.table.specs.Table.{rowOf};
 ghost use Rattle.table.specs.Codes.{codeFor};
 ghost use Rattle.table.specs.declared.Class.the-variants.{FormulaRecord};
 ghost use Rattle.layout.specs.Plain.{rowBy, plain};
-ghost use Rattle.records.specs.Guard.{guard};
-ghost use Rattle.records.specs.Faults.{scaleFault};
+ghost use Rattle.faults.specs.Guard.{guard};
+ghost use Rattle.faults.specs.Faults.{scaleFault};
 ghost use Rattle.record_writer.specs.Answers.{refusedBy, bufferAfter};
 ghost use Rattle.record_writer.specs.RecordWriter.{plainWriting, judgedWriting, recordWriting, bytesOf};
 
 pub mod answers;
 
 use answers::Writing;
+use faults::parts;
 use formula::Formula;
 use layout::putting;
-use records::formulas;
 
 // A record's bytes, copied if the reader's own check has nothing against them and there is room.
 fn copy_judged(bytes: &[u8], out: &mut [u8], s: u32) -> Writing
@@ -25,7 +25,7 @@ fn copy_judged(bytes: &[u8], out: &mut [u8], s: u32) -> Writing
     ensures result { λ r. ⌜ r ≡ judgedWriting s (now (bytes .entry)) (length (now (out .entry))) ⌝ }
     ensures buffer { λ r. ⌜ now (out .exit) ≡ bufferAfter r (now (bytes .entry)) (now (out .entry)) ⌝ }
 {
-    let c = formulas::formula_fault(bytes, 0, 1, 0, s);
+    let c = records::formula_fault(bytes, 0, 1, 0, s);
     if c != 0 {
         return answers::refused_by(c);
     }
@@ -43,14 +43,14 @@ fn put_checked(f: Formula, code: u16, out: &mut [u8], s: u32) -> Writing
     ensures result { λ r. ⌜ r ≡ guard (scaleFault s) refusedBy (plainWriting s (rowBy f) (plain f) (length (now (out .entry)))) ⌝ }
     ensures buffer { λ r. ⌜ now (out .exit) ≡ bufferAfter r (bytesOf f) (now (out .entry)) ⌝ }
 {
-    let a = records::scale_fault(s);
+    let a = faults::scale_fault(s);
     if a != 0 {
         return answers::refused_by(a);
     }
     let row = table::row_of(code);
     let given = f.shape;
     let shape = putting::plain_shape(row, given);
-    let b = formulas::count_fault(row, shape.p, shape.q);
+    let b = parts::count_fault(row, shape.p, shape.q);
     if b != 0 {
         return answers::refused_by(b);
     }

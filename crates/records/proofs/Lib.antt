@@ -1,9 +1,5 @@
 -- Laws, lowest first.
-pub mod Chain
-pub mod ScaleLaws
-pub mod Frames
-pub mod Lengths
-pub mod Values
 pub mod Soundness
+pub mod Front
 pub mod FormulaLaws
-pub mod FaultSets
+pub mod ValueSets

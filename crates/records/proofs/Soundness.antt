@@ -14,10 +14,11 @@ use Rattle.table.specs.declared.Row.{Row}
 use Rattle.table.specs.Table.{Within}
 use Rattle.table.specs.Rule.{Ruled}
 use Rattle.layout.specs.Fields.{shapeOf, loOf, hiOf, wordsOf, Complete}
-use Rattle.records.specs.Faults.{outside, wordFault, wordsFault, intervalFault, kindFault, ownFault, valueFault, innerFault}
-use Rattle.records.proofs.Chain.{passed, neither}
-use Rattle.records.proofs.Lengths.{inside}
-use Rattle.records.proofs.Values.{word, each-word}
+use Rattle.faults.specs.Faults.{outside, wordFault, wordsFault, intervalFault, kindFault, ownFault}
+use Rattle.faults.proofs.Chain.{passed, neither}
+use Rattle.faults.proofs.Lengths.{inside}
+use Rattle.faults.proofs.Values.{word, each-word}
+use Rattle.records.specs.Records.{valueFault, innerFault}
 
 not-below : (a b : ℤ) → ltZ a b ≡ false → b ≤ℤ a
 not-below a b e = ltZ-no (subst (λ (t : Bool). T (not t)) (sym e) tt)

@@ -1,5 +1,3 @@
--- Refusal numbers and their order, and what a sheet is.
-pub mod Guard
-pub mod Faults
-pub mod Refusals
+-- The faults of a whole formula record, and what a sheet is.
+pub mod Records
 pub mod Sheets

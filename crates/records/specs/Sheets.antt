@@ -10,7 +10,8 @@ use Rattle.stored.specs.Numbers.{number4}
 use Rattle.table.specs.declared.Class.{Class}
 use Rattle.table.specs.declared.Class.the-variants.{StartRecord, FormulaRecord, EndRecord}
 use Rattle.layout.specs.Fields.{rowFor, countOf, formulaNumber}
-use Rattle.records.specs.Faults.{lengthFault, innerFault}
+use Rattle.faults.specs.Faults.{lengthFault}
+use Rattle.records.specs.Records.{innerFault}
 
 -- the bytes of one record of a class, as long as they say and as their kind and counts ask for
 pub record RecordOf (k : Class) (b : List ℕ) : Type 0 where

@@ -1,50 +1,137 @@
-// The checks of one record in the paper's order: each function gives the paper's number, or 0 for none.
+// The checks of a formula record in the paper's order, over the words where they stand: the paper's number, or 0 for none. One
+// function for each kind, with its row by a constant code: the compiler then has the row's numbers as constants.
 // What reader and writers share: a caller of theirs needs none of it.
 ghost use mathlib.Core.Path.{_≡_};
-ghost use Prim.Native.Nat.{_≤_};
+ghost use Prim.Native.Nat.{_≤_, _-_, _/_};
 ghost use lib.ListN.{length};
-ghost use Rattle.records.specs.Faults.{frameFault, scaleFault};
+ghost use Rattle.word.specs.Words.{Scale};
+ghost use Rattle.stored.specs.Words.{words, Stretch};
+ghost use Rattle.formula.specs.Formula.{mostOf};
+ghost use Rattle.table.specs.Table.{rowOf};
+ghost use Rattle.table.specs.Rule.{Ruled};
+ghost use Rattle.table.specs.declared.Class.the-variants.{FormulaRecord};
+ghost use Rattle.layout.specs.Fields.{loOf, hiOf, rowFor};
+ghost use Rattle.faults.specs.Guard.{orElse};
+ghost use Rattle.faults.specs.Faults.{wordsFault};
+ghost use Rattle.records.specs.Records.{frontFault, judgedFault, onlyFormula, formulaFault};
+use admission::Admission;
+use faults::parts;
+use layout::fields;
+use table::Row;
 
-pub mod formulas;
-pub mod framing;
-
-// The paper's number of a refusal, and the place of the byte that it names.
-pub struct Refusal {
-    pub number: u8,
-    pub place: usize,
-}
-
-// Whether a record stands at a place: 1 or 2.
-pub fn frame_fault(s: &[u8], at: usize) -> u8
-    requires { ⌜ at ≤ length (now s) ⌝ }
-    ensures { λ r. ⌜ r ≡ frameFault (now (s .entry)) at ⌝ }
+// All that comes before the words and admission: exact length (2); 4; 5; 6 of all but the words.
+fn front_fault(b: &[u8], row: Row, seen: u16, count: u16, next: u32) -> u8
+    requires { ⌜ Ruled row × (row .class ≡ FormulaRecord) × (length (now b) ≤ 120) ⌝ }
+    ensures { λ r. ⌜ r ≡ frontFault row (now (b .entry)) seen count next ⌝ }
 {
-    let left = s.len() - at;
-    if left < 4 {
-        return 1;
-    }
-    let n = stored::get4(s, at) as usize;
-    if n < 8 {
+    if b.len() < row.head {
         return 2;
     }
-    if 120 < n {
-        return 2;
+    let shape = fields::shape_of(b, row);
+    let f = parts::size_fault(row, shape, b.len());
+    if f != 0 {
+        return f;
     }
-    if left < n {
-        return 1;
+    let g = parts::order_fault(seen, count, next, fields::number(b));
+    if g != 0 {
+        return g;
     }
-    0
+    parts::own_fault(row, shape, fields::lo(b), fields::hi(b))
 }
 
-// 6 for binary places that no board has.
-pub fn scale_fault(s: u32) -> u8
-    ensures { λ r. ⌜ r ≡ scaleFault s ⌝ }
+// A number that is no word comes before 7 and 8. Admission never admits one, so the words are looked at only where it refuses.
+fn words_first(b: &[u8], at: usize, m: usize, number: u8) -> u8
+    requires { ⌜ Stretch (now b) at m ⌝ }
+    ensures { λ r. ⌜ r ≡ orElse (wordsFault (words (now (b .entry)) at m)) number ⌝ }
 {
-    if s < 16 {
-        return 6;
+    let f = parts::words_fault(b, at, m);
+    if f != 0 {
+        return f;
     }
-    if 28 < s {
-        return 6;
+    number
+}
+
+// The number of what admission has found over the words from a place to the record's end.
+fn admission_fault(b: &[u8], at: usize, found: Admission) -> u8
+    requires { ⌜ at ≤ length (now b) ⌝ }
+    ensures { λ r. ⌜ r ≡ judgedFault (words (now (b .entry)) at ((length (now (b .entry)) - at) / 4)) found ⌝ }
+{
+    let m = (b.len() - at) / 4;
+    match found {
+        Admission::Admitted => 0,
+        Admission::RangeLeft => words_first(b, at, m, 7),
+        Admission::DivisorZero => words_first(b, at, m, 8),
     }
-    0
+}
+
+// A, the larger of |lo| and |hi|.
+fn most(b: &[u8]) -> u32
+    requires { ⌜ 16 ≤ length (now b) ⌝ }
+    ensures { λ r. ⌜ r ≡ mostOf (loOf (now (b .entry))) (hiOf (now (b .entry))) ⌝ }
+{
+    formula::most_of(fields::lo(b), fields::hi(b))
+}
+
+fn polynomial_fault(b: &[u8], seen: u16, count: u16, next: u32, s: u32) -> u8
+    requires { ⌜ Scale s × (length (now b) ≤ 120) ⌝ }
+    ensures { λ r. ⌜ r ≡ formulaFault s (rowOf 0x0010) (now (b .entry)) seen count next ⌝ }
+{
+    let row = table::row_of(table::POLYNOMIAL);
+    let f = front_fault(b, row, seen, count, next);
+    if f != 0 {
+        return f;
+    }
+    let shape = fields::shape_of(b, row);
+    let found = polynomial::admit(b, row.head, shape.p as usize, most(b), s);
+    admission_fault(b, row.head, found)
+}
+
+fn rational_fault(b: &[u8], seen: u16, count: u16, next: u32, s: u32) -> u8
+    requires { ⌜ Scale s × (length (now b) ≤ 120) ⌝ }
+    ensures { λ r. ⌜ r ≡ formulaFault s (rowOf 0x0011) (now (b .entry)) seen count next ⌝ }
+{
+    let row = table::row_of(table::RATIONAL);
+    let f = front_fault(b, row, seen, count, next);
+    if f != 0 {
+        return f;
+    }
+    let shape = fields::shape_of(b, row);
+    let found = rational::admit(b, row.head, shape.p as usize, shape.q as usize, most(b), s);
+    admission_fault(b, row.head, found)
+}
+
+fn fraction_fault(b: &[u8], seen: u16, count: u16, next: u32, s: u32) -> u8
+    requires { ⌜ Scale s × (length (now b) ≤ 120) ⌝ }
+    ensures { λ r. ⌜ r ≡ formulaFault s (rowOf 0x0012) (now (b .entry)) seen count next ⌝ }
+{
+    let row = table::row_of(table::FRACTION);
+    let f = front_fault(b, row, seen, count, next);
+    if f != 0 {
+        return f;
+    }
+    let shape = fields::shape_of(b, row);
+    let found = fraction::admit(b, row.head, shape.p as usize, shape.mode as u32, most(b), s);
+    admission_fault(b, row.head, found)
+}
+
+// A root has no words, and is always admitted.
+fn root_fault(b: &[u8], seen: u16, count: u16, next: u32) -> u8
+    requires { ⌜ length (now b) ≤ 120 ⌝ }
+    ensures { λ r. ⌜ r ≡ frontFault (rowOf 0x0013) (now (b .entry)) seen count next ⌝ }
+{
+    front_fault(b, table::row_of(table::ROOT), seen, count, next)
+}
+
+// 3 for a record that is no formula; then all that a formula record is refused for.
+pub fn formula_fault(b: &[u8], seen: u16, count: u16, next: u32, s: u32) -> u8
+    requires { ⌜ Scale s × (8 ≤ length (now b)) × (length (now b) ≤ 120) ⌝ }
+    ensures { λ r. ⌜ r ≡ orElse (onlyFormula (rowFor (now (b .entry)) .class)) (formulaFault s (rowFor (now (b .entry))) (now (b .entry)) seen count next) ⌝ }
+{
+    match fields::code(b) {
+        table::POLYNOMIAL => polynomial_fault(b, seen, count, next, s),
+        table::RATIONAL => rational_fault(b, seen, count, next, s),
+        table::FRACTION => fraction_fault(b, seen, count, next, s),
+        table::ROOT => root_fault(b, seen, count, next),
+        _ => 3,
+    }
 }

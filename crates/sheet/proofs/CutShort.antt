@@ -8,8 +8,8 @@ use Rattle.table.specs.declared.Class.the-variants.{StartRecord, FormulaRecord,
 use Rattle.layout.specs.Fields.{rowFor, formulaNumber}
 use Rattle.stored.specs.Numbers.{number4}
 use Rattle.stored.proofs.NumberLaws.{number4-more}
-use Rattle.records.specs.Guard.{refusal}
-use Rattle.records.specs.Faults.{frameFault}
+use Rattle.faults.specs.Guard.{refusal}
+use Rattle.faults.specs.Faults.{frameFault}
 use Rattle.records.specs.Sheets.{RecordOf, EachFormula, Rising, inLine, SheetOf}
 use Rattle.walking.specs.Refused.{RefusedAt}
 use Rattle.walking.specs.Walking.{walk, faultAt}

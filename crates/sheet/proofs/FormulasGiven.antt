@@ -3,7 +3,7 @@
 use Rattle.whole.proofs.Basics.{_≡_, _∙_, refl, ap, subst, _⊎_, inl, inr, List, ℕ, arith, length}
 use Rattle.word.specs.Words.{Scale}
 use Rattle.layout.specs.Fields.{formulaNumber, formulaOf}
-use Rattle.records.specs.Guard.{refusal}
+use Rattle.faults.specs.Guard.{refusal}
 use Rattle.records.specs.Sheets.{FormulaBytes, Has, SheetOf}
 use Rattle.walking.specs.declared.Walked.{Walked}
 use Rattle.walking.proofs.Formulas.{placeIn}

@@ -1,8 +1,8 @@
 -- Promise: any bytes are accepted, or refused by one of a sheet's refusals; a number asked for is refused by these, or by 11. For a walk over
 -- a sheet is whole, or broken by one of them.
 use Rattle.whole.proofs.Basics.{_≡_, refl, ap, _⊎_, inl, inr, List, ℕ, suc, zero}
-use Rattle.records.specs.Refusals.{OneOf, sheetRefusals}
-use Rattle.records.proofs.FaultSets.{not-zero}
+use Rattle.faults.specs.Refusals.{OneOf, sheetRefusals}
+use Rattle.faults.proofs.FaultSets.{not-zero}
 use Rattle.walking.specs.Walking.{walkOf}
 use Rattle.walking.specs.declared.Walked.{Walked}
 use Rattle.walking.specs.declared.Walked.the-variants.{Whole, Broken}

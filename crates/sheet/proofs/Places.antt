@@ -3,8 +3,8 @@ use Rattle.whole.proofs.Basics.{_≡_, _∙_, refl, sym, ap, subst, Bool, true,
 use native.Mathlib.Nat.{add-zero}
 use Rattle.table.specs.declared.Class.the-variants.{FormulaRecord}
 use Rattle.layout.specs.Fields.{bytesAt, formulaNumber}
+use Rattle.faults.proofs.Frames.{framed, reaches}
 use Rattle.records.specs.Sheets.{FormulaBytes, EachFormula, inLine, Has, SheetOf}
-use Rattle.records.proofs.Frames.{framed, reaches}
 use Rattle.walking.specs.Walking.{walkOf, Walkable}
 use Rattle.walking.specs.declared.Walked.{Walked}
 use Rattle.walking.specs.declared.Walked.the-variants.{Whole, Broken}

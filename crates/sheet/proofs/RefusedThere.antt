@@ -1,7 +1,7 @@
 -- Promise: a refusal's place has a meaning of its own. Where the reader refuses a sheet, all before the place is without fault and what stands
 -- there is not, or a whole sheet ends there (9); and whoever shows such a place has shown what the reader answers. So there is only one.
 use Rattle.whole.proofs.Basics.{_≡_, _∙_, refl, sym, ap, List, ℕ, arith}
-use Rattle.records.specs.declared.Refusal.{Refusal}
+use Rattle.faults.specs.declared.Refusal.{Refusal}
 use Rattle.walking.specs.Refused.{RefusedAt}
 use Rattle.walking.specs.Walking.{walkOf}
 use Rattle.walking.specs.declared.Walked.{Walked}

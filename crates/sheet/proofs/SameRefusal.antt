@@ -1,7 +1,7 @@
 -- Promise: whatever number is asked for, a sheet that is refused is refused by the same number at the same place.
 -- What its bytes have wrong is known from the count, and breaks every walk.
 use Rattle.whole.proofs.Basics.{_≡_, refl, ap, List, ℕ}
-use Rattle.records.specs.declared.Refusal.{Refusal}
+use Rattle.faults.specs.declared.Refusal.{Refusal}
 use Rattle.walking.specs.declared.Walked.{Walked}
 use Rattle.walking.proofs.RefusalToWalk.{broken}
 use Rattle.sheet.specs.declared.answers.Place.{Place}

@@ -10,8 +10,8 @@ use Rattle.layout.specs.Fields.{codeOf, rowFor, loOf, hiOf, shapeOf, wordsOf, p
 use Rattle.layout.proofs.Complete.{complete}
 use Rattle.layout.proofs.Padded.{take-padded}
 use Rattle.layout.specs.Plain.{wordsIn}
+use Rattle.faults.proofs.Lengths.{laid}
 use Rattle.records.specs.Sheets.{RecordOf, FormulaBytes}
-use Rattle.records.proofs.Lengths.{laid}
 use Rattle.records.proofs.Soundness.{admitted, sound-record}
 use Rattle.sheet.specs.Reader.{formulaIn, Fit}
 

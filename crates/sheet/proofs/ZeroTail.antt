@@ -6,8 +6,8 @@ use lib.Seq.{ext-getD, getD-take, length-take-le, getD-append-add}
 use Rattle.stored.specs.Numbers.{number2}
 use Rattle.table.proofs.Rule.{end-length}
 use Rattle.layout.specs.Fields.{codeOf, rowFor, shapeOf}
+use Rattle.faults.proofs.Lengths.{laid}
 use Rattle.records.specs.Sheets.{inLine}
-use Rattle.records.proofs.Lengths.{laid}
 use Rattle.sheet.specs.Reader.{Accepted, NotAccepted}
 use Rattle.sheet.proofs.OneToNine.{one-to-nine}
 use Rattle.sheet.proofs.AcceptedShape.{accepted-shape}

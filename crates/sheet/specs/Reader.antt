@@ -14,11 +14,12 @@ use Rattle.formula.specs.Formula.{Sound, admissionOf}
 use Rattle.table.specs.Table.{rows, firstRow, rowOf, piecesBy}
 use Rattle.layout.specs.Fields.{bytesAt, Reaches, rowFor, firstCount, fieldOf, shape, shapeOf, padded, formula, formulaOf}
 use Rattle.layout.specs.Plain.{wordsIn}
-use Rattle.records.specs.Faults.{frameFault, outside, countFault, sizeFault, lengthFault, startFault, scaleFault, orderFault, endFault, valueFault, ownFault, intervalFault, wordsFault}
-use Rattle.records.specs.Guard.{refusal}
-use Rattle.records.specs.Refusals.{OneOf, sheetRefusals}
+use Rattle.faults.specs.Faults.{frameFault, outside, countFault, sizeFault, lengthFault, startFault, scaleFault, orderFault, endFault, ownFault, intervalFault, wordsFault}
+use Rattle.faults.specs.Guard.{refusal}
+use Rattle.faults.specs.Refusals.{OneOf, sheetRefusals}
+use Rattle.faults.specs.declared.Refusal.{Refusal}
+use Rattle.records.specs.Records.{valueFault}
 use Rattle.records.specs.Sheets.{FormulaBytes}
-use Rattle.records.specs.declared.Refusal.{Refusal}
 use Rattle.walking.specs.Walking.{recordFault, faultAt, foundBy, ending, walkFrom, walkOf}
 use Rattle.walking.specs.declared.Walked.{Walked}
 use Rattle.walking.specs.declared.Walked.the-variants.{Whole, Broken}

@@ -1,6 +1,6 @@
 // What the reader answers.
+use faults::Refusal;
 use formula::Formula;
-use records::Refusal;
 
 pub enum FormulaCount {
     Count(u16),

@@ -7,11 +7,11 @@ use crate::answers::FormulaCount;
 use crate::answers::Found;
 use crate::answers::Place;
 use crate::answers::Reading;
+use faults::Refusal;
 use formula::Formula;
 use formula::Kind;
 use formula::Shape;
 use layout::fields;
-use records::Refusal;
 use walking::Walked;
 
 // Above every number: none is asked for.

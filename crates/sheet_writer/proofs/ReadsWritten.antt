@@ -8,12 +8,12 @@ use Rattle.formula.specs.declared.Formula.{Formula}
 use Rattle.layout.specs.Fields.{bytesAt, rowFor, formulaNumber, formulaOf}
 use Rattle.layout.specs.Plain.{Handed, plainBy, rowBy, plain}
 use Rattle.layout.proofs.RecordBack.{number-again, formula-back, row-back}
-use Rattle.records.specs.Faults.{scaleFault}
+use Rattle.faults.specs.Faults.{scaleFault}
 use Rattle.records.specs.Sheets.{FormulaBytes, EachFormula, Rising, inLine, Has, RunOf, SheetOf}
 use Rattle.walking.specs.Walking.{walkOf}
 use Rattle.walking.specs.declared.Walked.{Walked}
 use Rattle.walking.specs.declared.Walked.the-variants.{Whole, Broken}
-use Rattle.records.proofs.ScaleLaws.{good-scale}
+use Rattle.faults.proofs.ScaleLaws.{good-scale}
 use Rattle.walking.proofs.Formulas.{placeIn}
 use Rattle.walking.proofs.WalkToShape.{run-shape}
 use Rattle.sheet.specs.Reader.{noNumber, formulaCount, reading, placeAnswer, formulaPlace, readAt, formulaRead}

@@ -9,9 +9,9 @@ use Rattle.table.specs.Codes.{startRow, endRow}
 use Rattle.layout.specs.Fields.{countOf, firstCount, fieldOf, shapeOf}
 use Rattle.layout.specs.Bytes.{frontBytes, framingBytes}
 use Rattle.layout.proofs.RecordBack.{number-back}
-use Rattle.records.specs.Faults.{outside, countFault, sizeFault, lengthFault}
+use Rattle.faults.specs.Faults.{outside, countFault, sizeFault, lengthFault}
+use Rattle.faults.proofs.ScaleLaws.{no-scale-fault}
 use Rattle.records.specs.Sheets.{RecordOf, EachFormula, inLine, RunOf, SheetOf}
-use Rattle.records.proofs.ScaleLaws.{no-scale-fault}
 use Rattle.walking.specs.declared.Walked.the-variants.{Whole}
 use Rattle.walking.proofs.ShapeToWalk.{run-walked}
 use Rattle.record_writer.specs.declared.answers.Writing.the-variants.{Written}

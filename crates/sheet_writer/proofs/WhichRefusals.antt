@@ -1,9 +1,9 @@
 -- Promise: the sheet writer writes, or refuses by one of a run's refusals or by 12. The walk over a run gives no others.
 use Rattle.whole.proofs.Basics.{_≡_, refl, subst, Bool, true, false, cond, _⊎_, inl, inr, List, _∷_, ℕ, _+_, eqb, ltb, length}
 use Rattle.table.specs.Codes.{startRow}
-use Rattle.records.specs.Faults.{scaleFault}
-use Rattle.records.specs.Refusals.{OneOf}
-use Rattle.records.proofs.FaultSets.{one-of, scale-set}
+use Rattle.faults.specs.Faults.{scaleFault}
+use Rattle.faults.specs.Refusals.{OneOf}
+use Rattle.faults.proofs.FaultSets.{one-of, scale-set}
 use Rattle.walking.specs.declared.Walked.{Walked}
 use Rattle.walking.specs.declared.Walked.the-variants.{Whole, Broken}
 use Rattle.walking.proofs.Numbered.{Numbered, numbered}

@@ -21,11 +21,12 @@ use Rattle.layout.specs.Plain.{kept, plainShape, plainBy, rowBy, plain, wordsBy
 use Rattle.layout.specs.Bytes.{frontBytes, headBytes, fieldBytes, fieldsBytes, framingBytes, wordBytes, recordBytes}
 use Rattle.layout.proofs.BytesAgain.{bytes-left, bytes-right, glue, two-again, four-again, word-again, field-again, words-again}
 use Rattle.layout.proofs.Complete.{exactly}
-use Rattle.records.specs.Faults.{outside, intervalFault, ownFault, valueFault, countFault, sizeFault, lengthFault, onlyFormula}
+use Rattle.faults.specs.Faults.{outside, intervalFault, ownFault, countFault, sizeFault, lengthFault}
+use Rattle.faults.proofs.Chain.{goes, passed, neither}
+use Rattle.faults.proofs.Lengths.{inside, laid}
+use Rattle.faults.proofs.ScaleLaws.{no-scale-fault}
+use Rattle.records.specs.Records.{valueFault, onlyFormula}
 use Rattle.records.specs.Sheets.{RecordOf, FormulaBytes, EachFormula, inLine, Has, RunOf, SheetOf}
-use Rattle.records.proofs.Chain.{goes, passed, neither}
-use Rattle.records.proofs.Lengths.{inside, laid}
-use Rattle.records.proofs.ScaleLaws.{no-scale-fault}
 use Rattle.sheet.specs.Reader.{countValue, formulaCount, Accepted, HasFormula, formulaRead}
 use Rattle.sheet.specs.declared.answers.Reading.{Reading}
 use Rattle.sheet.proofs.Words.{words-in}

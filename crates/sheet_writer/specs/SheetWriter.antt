@@ -11,9 +11,10 @@ use Rattle.table.specs.Table.{rows, firstRow, rowOf, piecesBy}
 use Rattle.table.specs.Codes.{startRow, endRow}
 use Rattle.layout.specs.Fields.{bytesAt, firstCount, fieldOf, shapeOf}
 use Rattle.layout.specs.Bytes.{frontBytes, framingBytes}
-use Rattle.records.specs.Faults.{frameFault, outside, countFault, sizeFault, lengthFault, orderFault, intervalFault, ownFault, wordsFault, valueFault, scaleFault}
-use Rattle.records.specs.Guard.{guard, refusal}
-use Rattle.records.specs.Refusals.{recordRefusals}
+use Rattle.faults.specs.Faults.{frameFault, outside, countFault, sizeFault, lengthFault, orderFault, intervalFault, ownFault, wordsFault, scaleFault}
+use Rattle.faults.specs.Guard.{guard, refusal}
+use Rattle.faults.specs.Refusals.{recordRefusals}
+use Rattle.records.specs.Records.{valueFault}
 use Rattle.walking.specs.Walking.{recordFault, faultAt, foundBy, walkFrom, walkOf}
 use Rattle.walking.specs.declared.Walked.{Walked}
 use Rattle.walking.specs.declared.Walked.the-variants.{Whole, Broken}

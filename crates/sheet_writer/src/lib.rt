@@ -64,7 +64,7 @@ pub fn write_sheet(run: &[u8], out: &mut [u8], s: u32) -> Writing
     ensures result { λ r. ⌜ r ≡ sheetWriting s (now (run .entry)) (length (now (out .entry))) ⌝ }
     ensures buffer { λ r. ⌜ now (out .exit) ≡ bufferAfter r (sheetOf s (now (run .entry))) (now (out .entry)) ⌝ }
 {
-    let f = records::scale_fault(s);
+    let f = faults::scale_fault(s);
     if f != 0 {
         return answers::refused_by(f);
     }

@@ -7,9 +7,10 @@ use Rattle.table.specs.Table.{rows, firstRow, rowOf}
 use Rattle.table.specs.Codes.{startRow, endRow}
 use Rattle.table.proofs.CodeLaws.{code-found, start-row, end-row}
 use Rattle.layout.specs.Fields.{codeOf, rowFor, countOf}
-use Rattle.records.specs.Guard.{orElse}
-use Rattle.records.specs.Faults.{lengthFault, startFault, scaleFault, endFault, formulaFault, onlyFormula}
-use Rattle.records.proofs.Chain.{or-assoc}
+use Rattle.faults.specs.Guard.{orElse}
+use Rattle.faults.specs.Faults.{lengthFault, startFault, scaleFault, endFault}
+use Rattle.faults.proofs.Chain.{or-assoc}
+use Rattle.records.specs.Records.{formulaFault, onlyFormula}
 use Rattle.walking.specs.Walking.{placeFault, classFault, recordFault, startRecordFault, endRecordFault, otherRecordFault}
 use Rattle.walking.specs.declared.Walk.{Walk}
 

@@ -4,10 +4,11 @@ use Rattle.word.specs.Words.{Scale}
 use Rattle.table.specs.declared.Class.{Class}
 use Rattle.table.specs.declared.Class.the-variants.{StartRecord, FormulaRecord, EndRecord, Unknown}
 use Rattle.layout.specs.Fields.{rowFor, countOf, formulaNumber}
-use Rattle.records.specs.Guard.{refusal}
-use Rattle.records.specs.Faults.{frameFault, lengthFault, startFault, orderFault, endFault, innerFault}
-use Rattle.records.proofs.ScaleLaws.{good-scale}
-use Rattle.records.proofs.Chain.{halts, goes, passed, met, neither}
+use Rattle.faults.specs.Guard.{refusal}
+use Rattle.faults.specs.Faults.{frameFault, lengthFault, startFault, orderFault, endFault}
+use Rattle.faults.proofs.ScaleLaws.{good-scale}
+use Rattle.faults.proofs.Chain.{halts, goes, passed, met, neither}
+use Rattle.records.specs.Records.{innerFault}
 use Rattle.walking.specs.Walking.{placeFault, classFault, recordFault, recordHere, faultAt, onward, runDone, walkFrom}
 use Rattle.walking.specs.declared.Walk.{Walk}
 use Rattle.walking.specs.declared.Walked.{Walked}

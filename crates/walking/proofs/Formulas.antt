@@ -4,7 +4,7 @@ use native.Mathlib.Nat.{zero-add}
 use Rattle.table.specs.declared.Class.{Class}
 use Rattle.table.specs.declared.Class.the-variants.{FormulaRecord}
 use Rattle.layout.specs.Fields.{rowFor, formulaNumber}
-use Rattle.records.specs.Faults.{lengthFault, orderFault}
+use Rattle.faults.specs.Faults.{lengthFault, orderFault}
 use Rattle.records.specs.Sheets.{RecordOf, FormulaBytes, EachFormula, Rising, inLine}
 use Rattle.walking.specs.Walking.{placeFault, classFault, recordHere, foundBy, afterFormula, onward, runDone, faultAt, walkFrom}
 use Rattle.walking.specs.Refused.{nextNumber}

@@ -7,9 +7,9 @@ use Rattle.table.specs.declared.Class.the-variants.{StartRecord, FormulaRecord}
 use Rattle.table.proofs.Rule.{ruled}
 use Rattle.layout.specs.Fields.{codeOf, rowFor, countOf, formulaNumber}
 use Rattle.layout.proofs.Cut.{length-bytesAt}
-use Rattle.records.specs.Faults.{startFault}
-use Rattle.records.proofs.Frames.{Framed, framed, reaches}
-use Rattle.records.proofs.Lengths.{inside}
+use Rattle.faults.specs.Faults.{startFault}
+use Rattle.faults.proofs.Frames.{Framed, framed, reaches}
+use Rattle.faults.proofs.Lengths.{inside}
 use Rattle.walking.specs.Walking.{begin, recordHere, afterStart, afterFormula, onward, runDone, faultAt, walkFrom, walkOf, Walkable, Standing}
 use Rattle.walking.specs.declared.Walk.{Walk}
 use Rattle.walking.proofs.Clear.{Clear, clear, opened, moved, ordered, walk-on}

@@ -5,9 +5,10 @@ use Rattle.table.specs.declared.Class.{Class}
 use Rattle.table.specs.declared.Class.the-variants.{StartRecord, FormulaRecord, EndRecord, Unknown}
 use Rattle.table.specs.declared.Row.{Row}
 use Rattle.layout.specs.Fields.{rowFor, countOf, formulaNumber, shapeOf, loOf, hiOf, wordsOf}
-use Rattle.records.specs.Guard.{guard, refusal}
-use Rattle.records.specs.Refusals.{OneOf, recordRefusals, sheetRefusals}
-use Rattle.records.proofs.FaultSets.{among, one-of, Fault, none, test, first, frame-set, length-set, start-set, scale-set, order-set, end-set, value-set}
+use Rattle.faults.specs.Guard.{guard, refusal}
+use Rattle.faults.specs.Refusals.{OneOf, recordRefusals, sheetRefusals}
+use Rattle.faults.proofs.FaultSets.{among, one-of, Fault, none, test, first, frame-set, length-set, start-set, scale-set, order-set, end-set}
+use Rattle.records.proofs.ValueSets.{value-set}
 use Rattle.walking.specs.Walking.{placeFault, classFault, recordFault, recordHere, faultAt, begin, ending, onward, runDone, walkFrom, walkOf}
 use Rattle.walking.specs.declared.Walk.{Walk}
 use Rattle.walking.specs.declared.Walked.{Walked}

@@ -8,9 +8,9 @@ use Rattle.stored.specs.Numbers.{number4}
 use Rattle.stored.proofs.NumberLaws.{number4-in, number4-drop, number4-more}
 use Rattle.layout.specs.Fields.{bytesAt, rowFor}
 use Rattle.layout.proofs.Cut.{length-bytesAt}
-use Rattle.records.specs.Faults.{frameFault, lengthFault}
+use Rattle.faults.specs.Faults.{frameFault, lengthFault}
+use Rattle.faults.proofs.Frames.{framed, reaches}
 use Rattle.records.specs.Sheets.{RecordOf}
-use Rattle.records.proofs.Frames.{framed, reaches}
 
 -- ---- read there
 

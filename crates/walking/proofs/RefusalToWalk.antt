@@ -2,8 +2,8 @@
 -- the start and past each formula, and so comes to the fault.
 use Rattle.whole.proofs.Basics.{_≡_, _∙_, refl, sym, ap, _⊎_, inl, inr, List, _++_, ℕ, suc, _+_, _-_, arith, length, length-append, lt-ltb}
 use Rattle.layout.specs.Fields.{countOf}
-use Rattle.records.specs.Guard.{refusal}
-use Rattle.records.specs.declared.Refusal.{Refusal}
+use Rattle.faults.specs.Guard.{refusal}
+use Rattle.faults.specs.declared.Refusal.{Refusal}
 use Rattle.walking.specs.Walking.{begin, afterStart, faultAt, walkFrom, walkOf}
 use Rattle.walking.specs.Refused.{faultThere, AtTheStart, BehindFormulas, BehindTheEnd, RefusedAt}
 use Rattle.walking.specs.declared.Walk.{Walk}

@@ -5,10 +5,10 @@ use Rattle.table.specs.declared.Class.{Class}
 use Rattle.table.specs.declared.Class.the-variants.{StartRecord, EndRecord}
 use Rattle.table.proofs.Rule.{ruled}
 use Rattle.layout.specs.Fields.{codeOf, rowFor, countOf}
-use Rattle.records.specs.Guard.{refusal}
-use Rattle.records.specs.Faults.{outside, startFault, endFault}
+use Rattle.faults.specs.Guard.{refusal}
+use Rattle.faults.specs.Faults.{outside, startFault, endFault}
+use Rattle.faults.proofs.ScaleLaws.{no-scale-fault}
 use Rattle.records.specs.Sheets.{RecordOf, inLine, SheetOf, RunOf}
-use Rattle.records.proofs.ScaleLaws.{no-scale-fault}
 use Rattle.walking.specs.Walking.{begin, afterStart, ending, onward, walkFrom, walkOf}
 use Rattle.walking.specs.declared.Walk.{Walk}
 use Rattle.walking.specs.declared.Walked.{Walked}

@@ -8,10 +8,10 @@ use Rattle.table.specs.declared.Class.the-variants.{StartRecord, FormulaRecord,
 use Rattle.table.specs.declared.Row.{Row}
 use Rattle.layout.specs.Fields.{bytesAt, rowFor, countOf, formulaNumber}
 use Rattle.layout.proofs.Cut.{length-bytesAt}
-use Rattle.records.specs.Guard.{refusal}
+use Rattle.faults.specs.Guard.{refusal}
 use Rattle.records.specs.Sheets.{RecordOf, EachFormula, Rising, inLine}
-use Rattle.records.specs.declared.Refusal.{Refusal}
-use Rattle.records.proofs.Frames.{framed, reaches}
+use Rattle.faults.specs.declared.Refusal.{Refusal}
+use Rattle.faults.proofs.Frames.{framed, reaches}
 use Rattle.walking.specs.Walking.{walk, begin, classFault, recordFault, recordHere, faultAt, afterStart, afterFormula, ending, onward, walkFrom, walkOf}
 use Rattle.walking.specs.Refused.{nextNumber, faultThere, AtTheStart, BehindFormulas, BehindTheEnd, RefusedAt}
 use Rattle.walking.specs.declared.Walk.{Walk}

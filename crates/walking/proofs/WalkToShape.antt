@@ -6,9 +6,9 @@ use Rattle.table.specs.declared.Class.{Class}
 use Rattle.table.specs.declared.Class.the-variants.{StartRecord, FormulaRecord, EndRecord, Unknown}
 use Rattle.layout.specs.Fields.{bytesAt, rowFor, countOf, formulaNumber}
 use Rattle.layout.proofs.Cut.{length-bytesAt}
-use Rattle.records.specs.Guard.{refusal}
+use Rattle.faults.specs.Guard.{refusal}
+use Rattle.faults.proofs.Frames.{framed, reaches}
 use Rattle.records.specs.Sheets.{RecordOf, EachFormula, Rising, inLine, SheetOf, RunOf}
-use Rattle.records.proofs.Frames.{framed, reaches}
 use Rattle.walking.specs.Walking.{begin, recordHere, afterStart, afterFormula, ending, onward, runDone, faultAt, walkFrom, walkOf}
 use Rattle.walking.specs.declared.Walk.{Walk}
 use Rattle.walking.specs.declared.Walked.the-variants.{Whole, Broken}

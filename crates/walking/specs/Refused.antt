@@ -8,9 +8,9 @@ use lib.ListN.{length}
 use Rattle.word.specs.Words.{Scale}
 use Rattle.table.specs.declared.Class.the-variants.{StartRecord}
 use Rattle.layout.specs.Fields.{countOf, formulaNumber}
-use Rattle.records.specs.Guard.{refusal}
+use Rattle.faults.specs.Guard.{refusal}
 use Rattle.records.specs.Sheets.{RecordOf, EachFormula, Rising, inLine, SheetOf}
-use Rattle.records.specs.declared.Refusal.{Refusal}
+use Rattle.faults.specs.declared.Refusal.{Refusal}
 use Rattle.walking.specs.Walking.{walk, faultAt}
 
 -- the least number that may stand behind formulas of which the first may have n

@@ -13,8 +13,9 @@ use Rattle.table.specs.declared.Class.the-variants.{StartRecord, FormulaRecord,
 use Rattle.table.specs.declared.Row.{Row}
 use Rattle.table.specs.Table.{rowOf}
 use Rattle.layout.specs.Fields.{bytesAt, rowFor, countOf, formulaNumber}
-use Rattle.records.specs.Guard.{guard, orElse, refusal}
-use Rattle.records.specs.Faults.{frameFault, lengthFault, startFault, scaleFault, orderFault, endFault, innerFault, formulaFault, onlyFormula}
+use Rattle.faults.specs.Guard.{guard, orElse, refusal}
+use Rattle.faults.specs.Faults.{frameFault, lengthFault, startFault, scaleFault, orderFault, endFault}
+use Rattle.records.specs.Records.{innerFault, formulaFault, onlyFormula}
 use Rattle.walking.specs.declared.Walk.{Walk}
 use Rattle.walking.specs.declared.Walked.{Walked}
 use Rattle.walking.specs.declared.Walked.the-variants.{Whole, Broken}

@@ -3,13 +3,12 @@ ghost use mathlib.Core.Path.{_≡_};
 ghost use Prim.Native.Nat.{_+_, _<_, _≤_};
 ghost use lib.ListN.{length};
 ghost use Rattle.word.specs.Words.{Scale};
-ghost use Rattle.records.specs.Guard.{refusal};
+ghost use Rattle.faults.specs.Guard.{refusal};
 ghost use Rattle.layout.specs.Fields.{rowFor};
 ghost use Rattle.walking.specs.Walking.{roomFor, begin, afterStart, foundBy, afterFormula, ending, startRecordFault, endRecordFault, otherRecordFault, recordFault, faultAt, walkOf, Walkable, Standing};
+use faults::Refusal;
+use faults::framing;
 use layout::fields;
-use records::Refusal;
-use records::formulas;
-use records::framing;
 
 // Where the walk stands: the next record's place, the place of the record that is asked for (0: none yet), the number that is
 // asked for, the least number that the next formula may have, how many formulas there may be, and how many it has seen.
@@ -114,7 +113,7 @@ fn start_fault(b: &[u8], at: usize, s: u32) -> u8
     if f != 0 {
         return f;
     }
-    records::scale_fault(s)
+    faults::scale_fault(s)
 }
 
 // An end: 3 at 0, and anywhere in a run; 2; 4.
@@ -139,7 +138,7 @@ fn formula_fault(b: &[u8], w: Walk, s: u32) -> u8
     if w.at == 0 {
         return 3;
     }
-    formulas::formula_fault(b, w.seen, w.count, w.next, s)
+    records::formula_fault(b, w.seen, w.count, w.next, s)
 }
 
 fn record_fault(b: &[u8], from: usize, w: Walk, s: u32) -> u8
@@ -158,7 +157,7 @@ fn fault_at(bytes: &[u8], from: usize, w: Walk, s: u32) -> u8
     ensures { λ r. ⌜ r ≡ faultAt s (now (bytes .entry)) from w ⌝ }
 {
     let at = w.at - from;
-    let f = records::frame_fault(bytes, at);
+    let f = faults::frame_fault(bytes, at);
     if f != 0 {
         return f;
     }

@@ -1,7 +1,7 @@
 -- `record_writer::copy_judged` meets its contract: a fault, too little room, and the bytes copied.
 use Rattle.whole.proofs.Basics.{_∙_, refl, now, needs, lt-ltb, le-ltb}
 use Rattle.stored.proofs.StoreLaws.{sets-front}
-use Rattle.records.proofs.Chain.{halts, goes}
+use Rattle.faults.proofs.Chain.{halts, goes}
 use Rattle.record_writer.specs.Answers.{refusedBy}
 use Rattle.record_writer.specs.RecordWriter.{roomWriting, judgedWriting}
 use Rattle.record_writer.proofs.copy_judged.Statement.{statement}

@@ -8,9 +8,9 @@ use Rattle.table.specs.Table.{rowOf}
 use Rattle.layout.specs.Plain.{Handed, plainShape, plainBy, rowBy, plain}
 use Rattle.layout.specs.Bytes.{Ready}
 use Rattle.layout.proofs.RecordLaws.{length-record}
-use Rattle.records.specs.Faults.{countFault}
-use Rattle.records.proofs.Chain.{halts, goes}
-use Rattle.records.proofs.ScaleLaws.{good-scale}
+use Rattle.faults.specs.Faults.{countFault}
+use Rattle.faults.proofs.Chain.{halts, goes}
+use Rattle.faults.proofs.ScaleLaws.{good-scale}
 use Rattle.record_writer.specs.Answers.{refusedBy, bufferAfter}
 use Rattle.record_writer.specs.RecordWriter.{plainWriting, judgedWriting, bytesOf}
 use Rattle.record_writer.proofs.Elements.{field-element}

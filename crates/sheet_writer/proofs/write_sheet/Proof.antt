@@ -1,7 +1,7 @@
 -- `write_sheet` meets its contract: first the scale, then an empty run, then what the run's walk says.
 use Rattle.whole.proofs.Basics.{_∙_, refl, sym, needs, eq-eqb, ne-eqb}
-use Rattle.records.proofs.Chain.{halts, goes}
-use Rattle.records.proofs.ScaleLaws.{good-scale}
+use Rattle.faults.proofs.Chain.{halts, goes}
+use Rattle.faults.proofs.ScaleLaws.{good-scale}
 use Rattle.record_writer.specs.Answers.{refusedBy}
 use Rattle.sheet_writer.specs.SheetWriter.{sheetWriting}
 use Rattle.sheet_writer.proofs.write_sheet.Statement.{statement}

@@ -1,8 +1,8 @@
 -- `walking::fault_at` meets its contract: the frame, then the record's own faults.
 use Rattle.whole.proofs.Basics.{_∙_, sym, ap, _-_, arith, length, now, needs}
 use Rattle.layout.proofs.Cut.{length-bytesAt}
-use Rattle.records.proofs.Chain.{stop, pass}
-use Rattle.records.proofs.Frames.{Framed, framed, reaches}
+use Rattle.faults.proofs.Chain.{stop, pass}
+use Rattle.faults.proofs.Frames.{Framed, framed, reaches}
 use Rattle.walking.specs.Walking.{faultAt}
 use Rattle.walking.proofs.fault_at.Statement.{statement}
 use Rattle.walking.proofs.fault_at.Tie as tie

@@ -1,6 +1,6 @@
 -- `walking::start_fault` meets its contract: the place, then the two links of its chain.
 use Rattle.whole.proofs.Basics.{needs, eq-eqb, ne-eqb}
-use Rattle.records.proofs.Chain.{stop, pass}
+use Rattle.faults.proofs.Chain.{stop, pass}
 use Rattle.walking.proofs.start_fault.Statement.{statement}
 use Rattle.walking.proofs.start_fault.Tie as tie
 

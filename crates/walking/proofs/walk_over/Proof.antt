@@ -3,7 +3,7 @@ use Rattle.whole.proofs.Basics.{_≡_, _∙_, refl, sym, ap, false, List, ℕ, 
 use mathlib.Core.Logic.{⊎-elim}
 use Rattle.table.specs.declared.Class.the-variants.{StartRecord, FormulaRecord, EndRecord}
 use Rattle.layout.specs.Fields.{codeOf, rowFor}
-use Rattle.records.proofs.Frames.{reaches}
+use Rattle.faults.proofs.Frames.{reaches}
 use Rattle.walking.specs.Walking.{recordHere, afterStart, afterFormula, runDone, faultAt}
 use Rattle.walking.specs.declared.Walk.{Walk}
 use Rattle.walking.proofs.Classes.{start-class, end-class, formula-class}

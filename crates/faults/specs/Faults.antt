@@ -1,0 +1,110 @@
+-- Refusals 1, 2, 4, 5 and 6 by the parts of a record, as the paper's numbers; 0 where there is none. The binary places are s.
+use Prim.Native.Nat.{ℕ, _-_}
+use mathlib.Core.Path.{_≡_, refl}
+use mathlib.Core.List.{List, [], _∷_}
+use mathlib.Core.Bool.{cond}
+use lib.Dec.{ltb, eqb}
+use lib.ListN.{length, replicate}
+use lib.IntN.{ℤ, pos, negsuc, natAbs}
+use lib.Signed.{ltZ}
+use Rattle.word.specs.Words.{largest}
+use Rattle.stored.specs.Numbers.{number2, number4}
+use Rattle.formula.specs.declared.Kind.{Kind}
+use Rattle.formula.specs.declared.Kind.the-variants.{Polynomial, Rational, Fraction, Root, NoFormula}
+use Rattle.formula.specs.declared.Shape.{Shape}
+use Rattle.table.specs.declared.Field.{Field}
+use Rattle.table.specs.declared.Row.{Row}
+use Rattle.table.specs.Table.{rows, firstRow, rowOf, piecesBy, lengthBy}
+use Rattle.layout.specs.Fields.{firstCount, fieldOf, shapeOf}
+use Rattle.faults.specs.Guard.{orElse}
+
+-- ---- the frame: fewer than 4 bytes left (1); length outside 8..120 (2); fewer bytes than the length (1)
+unfoldable pub frameFault : List ℕ → ℕ → ℕ
+frameFault s at =
+    cond (ltb (length s - at) 4) 1
+    (cond (ltb (number4 s at) 8) 2
+    (cond (ltb 120 (number4 s at)) 2
+    (cond (ltb (length s - at) (number4 s at)) 1 0)))
+
+-- ---- exact length. The fault k of a count or mode outside its range
+unfoldable pub outside : Field → ℕ → ℕ → ℕ
+outside f n k = cond (ltb n (f .least)) k (cond (ltb (f .most) n) k 0)
+
+-- a count of coefficients or depth outside its range (2)
+unfoldable pub countFault : Row → ℕ → ℕ → ℕ
+countFault r p q = orElse (outside (r .p) p 2) (outside (r .q) q 2)
+
+-- not the length of its kind and counts (2)
+unfoldable pub sizeFault : Row → Shape → ℕ → ℕ
+sizeFault r h n = orElse (countFault r (h .p) (h .q)) (cond (eqb (lengthBy r (h .p) (h .q)) n) 0 2)
+
+-- too short for its fields, or one of these (2)
+unfoldable pub lengthFault : Row → List ℕ → ℕ
+lengthFault r b = cond (ltb (length b) (r .head)) 2 (sizeFault r (shapeOf r b) (length b))
+
+-- ---- 4 and 5. Start count not 1 to 64 (4), by the row of the start
+unfoldable pub startFault : Row → ℕ → ℕ
+startFault r c = outside (r .count) c 4
+
+-- with `seen` formulas of `count` before it, and numbers from `next` on: a formula too many (4); number not above the one before (5)
+unfoldable pub orderFault : ℕ → ℕ → ℕ → ℕ → ℕ
+orderFault seen count next n = cond (eqb seen count) 4 (cond (ltb n next) 5 0)
+
+-- an end after too few or with another count (4)
+unfoldable pub endFault : ℕ → ℕ → ℕ → ℕ
+endFault seen count c = cond (eqb seen count) (cond (eqb c count) 0 4) 4
+
+-- ---- 6. A stored value is no word
+abbrev pub wordFault : ℤ → ℕ
+wordFault z = cond (ltb largest (natAbs z)) 6 0
+
+unfoldable pub wordsFault : List ℤ → ℕ
+wordsFault [] = 0
+wordsFault (z ∷ zs) = orElse (wordFault z) (wordsFault zs)
+
+-- an end that is no word, or lo above hi
+unfoldable pub intervalFault : ℤ → ℤ → ℕ
+intervalFault lo hi = orElse (wordFault lo) (orElse (wordFault hi) (cond (ltZ hi lo) 6 0))
+
+-- what a kind asks of its interval besides: a root with lo below 0
+abbrev pub kindFault : Kind → ℤ → ℕ
+kindFault Polynomial lo = 0
+kindFault Rational lo = 0
+kindFault Fraction lo = 0
+kindFault Root lo = cond (ltZ lo (pos 0)) 6 0
+kindFault NoFormula lo = 0
+
+-- 6 of all but the words: the interval, mode above 2, the kind's own
+unfoldable pub ownFault : Row → Shape → ℤ → ℤ → ℕ
+ownFault r h lo hi =
+    orElse (intervalFault lo hi)
+    (orElse (outside (r .mode) (h .mode) 6)
+    (kindFault (r .kind) lo))
+
+-- binary places outside 16..28
+unfoldable pub scaleFault : ℕ → ℕ
+scaleFault s = cond (ltb s 16) 6 (cond (ltb 28 s) 6 0)
+
+-- ---- worked examples: a root of 16 bytes and of 20; the one pattern that is no word; lo above hi; 16 to 28 places
+root-length : lengthFault (rowOf 0x0013) (replicate 16 0) ≡ 0
+unfolding rows firstRow rowOf number2 firstCount fieldOf shapeOf piecesBy outside countFault sizeFault lengthFault
+root-length = refl
+
+root-too-long : lengthFault (rowOf 0x0013) (replicate 20 0) ≡ 2
+unfolding rows firstRow rowOf number2 firstCount fieldOf shapeOf piecesBy outside countFault sizeFault lengthFault
+root-too-long = refl
+
+none-or-too-many : (startFault (rowOf 0x0001) 0 ≡ 4) × (startFault (rowOf 0x0001) 1 ≡ 0) × (startFault (rowOf 0x0001) 64 ≡ 0) × (startFault (rowOf 0x0001) 65 ≡ 4)
+unfolding rows firstRow rowOf outside startFault
+none-or-too-many = (refl, refl, refl, refl)
+
+no-word : (wordFault (negsuc 2147483647) ≡ 6) × (wordFault (negsuc 2147483646) ≡ 0)
+no-word = (refl, refl)
+
+lo-above-hi : (intervalFault (pos 1) (pos 0) ≡ 6) × (intervalFault (pos 1) (pos 1) ≡ 0)
+unfolding intervalFault
+lo-above-hi = (refl, refl)
+
+places : (scaleFault 15 ≡ 6) × (scaleFault 16 ≡ 0) × (scaleFault 28 ≡ 0) × (scaleFault 29 ≡ 6)
+unfolding scaleFault
+places = (refl, refl, refl, refl)

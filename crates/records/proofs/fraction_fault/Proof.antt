@@ -1,0 +1,71 @@
+-- `records::fraction_fault` meets its contract: the front, then what the kind's own admission has found.
+use Rattle.whole.proofs.Basics.{_≡_, refl, arith, now, needs}
+use Rattle.formula.specs.declared.Kind.the-variants.{Fraction}
+use Rattle.table.specs.Table.{rows, firstRow, rowOf}
+use Rattle.table.proofs.Rule.{ruled}
+use Rattle.records.proofs.Front.{Front, front-stops, whole, most-size, words-stand, front-passes}
+use Rattle.records.proofs.fraction_fault.Statement.{statement}
+use Rattle.records.proofs.fraction_fault.Tie as tie
+
+front-fault-requires : tie.Need-front-fault-requires
+unfolding rowOf firstRow rows
+front-fault-requires c κs = rw (c .row-of .ensures) (ruled 0x0012, refl, c .before .before .pre .1)
+
+-- the front, by the row that was found
+front : (c : tie.After-front-fault) →
+    let a = c .before .before .before .args in
+    Front 0x0012 Fraction (c .before .row-of .result) (now (a .b)) (a .seen) (a .count) (a .next) (c .front-fault .result)
+unfolding rowOf firstRow rows
+front c = record { row = c .before .row-of .ensures; class = refl; kind = refl; short = c .before .before .before .pre .1; fault = c .front-fault .ensures }
+
+returns : tie.Need-returns
+returns c = front-stops (c .before .before .before .before .args .s) (front (c .before)) (c .if1 .taken)
+
+shape-of-requires : tie.Need-shape-of-requires
+shape-of-requires c κs = let d = whole (front (c .before)) (c .if1 .left) in (d .ruled, omega (arith, d .laid .exact), d .most)
+
+most-requires : tie.Need-most-requires
+most-requires c κs = let e = c .before .before .before in whole (front (e .before)) (e .if1 .left) .least
+
+-- a depth is at least 1
+depth : (c : tie.After-row-of) → c .row-of .result .p .least ≡ 1
+unfolding rowOf firstRow rows
+depth c = rw (c .row-of .ensures) refl
+
+admit-requires : tie.Need-admit-requires
+admit-requires c κs =
+    let h = c .before .before .before in
+    let e = h .before in
+    let w = e .before .before in
+    let f = front (e .before) in
+    rw (h .shape-of .ensures) (
+      words-stand f (e .if1 .left),
+      (w .before .before .pre .0, omega (arith, depth w, whole f (e .if1 .left) .laid .p .0)),
+      omega (arith, c .most .ensures, most-size f (e .if1 .left)),
+    )
+
+admission-fault-requires : tie.Need-admission-fault-requires
+admission-fault-requires c κs = let e = c .before .before .before .before .before in omega (arith, whole (front (e .before)) (e .if1 .left) .laid .exact)
+
+returns-2 : tie.Need-returns-2
+returns-2 c =
+    let a = c .before in
+    let h = a .before .before .before .before in
+    let e = h .before in
+    let s = e .before .before .before .before .args .s in
+    front-passes (front (e .before)) (e .if1 .left) s (a .admit .result) (c .admission-fault .ensures) (rw (h .shape-of .ensures, a .before .most .ensures) at (a .admit .ensures))
+
+pub fraction-fault-spec : {M : Type 1} → statement M
+fraction-fault-spec =
+    tie.close
+    (tie.spec
+    (λ c κs. search needs)
+    front-fault-requires
+    returns
+    shape-of-requires
+    (λ c. search needs)
+    (λ c. search needs)
+    most-requires
+    admit-requires
+    admission-fault-requires
+    returns-2)
