@@ -6,7 +6,7 @@ ghost use Rattle.word.specs.Words.{Scale};
 ghost use Rattle.table.specs.Table.{rowOf};
 ghost use Rattle.table.specs.Codes.{codeFor};
 ghost use Rattle.table.specs.declared.Class.the-variants.{FormulaRecord};
-ghost use Rattle.layout.specs.Plain.{rowBy, plain};
+ghost use Rattle.putting.specs.Plain.{rowBy, plain};
 ghost use Rattle.records.specs.Guard.{guard};
 ghost use Rattle.records.specs.Faults.{scaleFault};
 ghost use Rattle.record_writer.specs.Answers.{refusedBy, bufferAfter};
@@ -16,7 +16,6 @@ pub mod answers;
 
 use answers::Writing;
 use formula::Formula;
-use layout::putting;
 use records::formulas;
 
 // A record's bytes, copied if the reader's own check has nothing against them and there is room.

@@ -15,7 +15,6 @@ ghost use Rattle.records.specs.Faults.{outside, countFault, sizeFault, o
 use admission::Admission;
 use formula::Kind;
 use formula::Shape;
-use layout::fields;
 use table::Field;
 use table::Row;
 
@@ -155,16 +154,16 @@ fn front_fault(b: &[u8], row: Row, seen: u16, count: u16, next: u32) -> u8
     if b.len() < row.head {
         return 2;
     }
-    let shape = fields::shape_of(b, row);
+    let shape = layout::shape_of(b, row);
     let f = size_fault(row, shape, b.len());
     if f != 0 {
         return f;
     }
-    let g = order_fault(seen, count, next, fields::number(b));
+    let g = order_fault(seen, count, next, layout::number(b));
     if g != 0 {
         return g;
     }
-    own_fault(row, shape, fields::lo(b), fields::hi(b))
+    own_fault(row, shape, layout::lo(b), layout::hi(b))
 }
 
 // A number that is no word comes before 7 and 8. Admission never admits one, so the words are looked at only where it refuses.
@@ -197,7 +196,7 @@ fn most(b: &[u8]) -> u32
     requires { ⌜ 16 ≤ length (now b) ⌝ }
     ensures { λ r. ⌜ r ≡ mostOf (loOf (now (b .entry))) (hiOf (now (b .entry))) ⌝ }
 {
-    formula::most_of(fields::lo(b), fields::hi(b))
+    formula::most_of(layout::lo(b), layout::hi(b))
 }
 
 fn polynomial_fault(b: &[u8], seen: u16, count: u16, next: u32, s: u32) -> u8
@@ -209,7 +208,7 @@ fn polynomial_fault(b: &[u8], seen: u16, count: u16, next: u32, s: u32) -> u8
     if f != 0 {
         return f;
     }
-    let shape = fields::shape_of(b, row);
+    let shape = layout::shape_of(b, row);
     let found = polynomial::admit(b, row.head, shape.p as usize, most(b), s);
     admission_fault(b, row.head, found)
 }
@@ -223,7 +222,7 @@ fn rational_fault(b: &[u8], seen: u16, count: u16, next: u32, s: u32) -> u8
     if f != 0 {
         return f;
     }
-    let shape = fields::shape_of(b, row);
+    let shape = layout::shape_of(b, row);
     let found = rational::admit(b, row.head, shape.p as usize, shape.q as usize, most(b), s);
     admission_fault(b, row.head, found)
 }
@@ -237,7 +236,7 @@ fn fraction_fault(b: &[u8], seen: u16, count: u16, next: u32, s: u32) -> u8
     if f != 0 {
         return f;
     }
-    let shape = fields::shape_of(b, row);
+    let shape = layout::shape_of(b, row);
     let found = fraction::admit(b, row.head, shape.p as usize, shape.mode as u32, most(b), s);
     admission_fault(b, row.head, found)
 }
@@ -255,7 +254,7 @@ pub fn formula_fault(b: &[u8], seen: u16, count: u16, next: u32, s: u32) -> u8
     requires { ⌜ Scale s × (8 ≤ length (now b)) × (length (now b) ≤ 120) ⌝ }
     ensures { λ r. ⌜ r ≡ orElse (onlyFormula (rowFor (now (b .entry)) .class)) (formulaFault s (rowFor (now (b .entry))) (now (b .entry)) seen count next) ⌝ }
 {
-    match fields::code(b) {
+    match layout::code(b) {
         table::POLYNOMIAL => polynomial_fault(b, seen, count, next, s),
         table::RATIONAL => rational_fault(b, seen, count, next, s),
         table::FRACTION => fraction_fault(b, seen, count, next, s),

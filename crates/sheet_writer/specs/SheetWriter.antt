@@ -10,7 +10,7 @@ use Rattle.stored.specs.Words.{words}
 use Rattle.table.specs.Table.{rows, firstRow, rowOf, piecesBy}
 use Rattle.table.specs.Codes.{startRow, endRow}
 use Rattle.layout.specs.Fields.{bytesAt, firstCount, fieldOf, shapeOf}
-use Rattle.layout.specs.Bytes.{frontBytes, framingBytes}
+use Rattle.putting.specs.Bytes.{frontBytes, framingBytes}
 use Rattle.records.specs.Faults.{frameFault, outside, countFault, sizeFault, lengthFault, orderFault, intervalFault, ownFault, wordsFault, valueFault, scaleFault}
 use Rattle.records.specs.Guard.{guard, refusal}
 use Rattle.walking.specs.Walking.{recordFault, faultAt, foundBy, walkFrom, walkOf}
