@@ -10,7 +10,7 @@ use Rattle.formula.proofs.StaysInRange.{formula-stays}
 use Rattle.door.specs.Exact.{Exactly}
 use Rattle.door.specs.Taken.{takenOf}
 use Rattle.door.specs.declared.answer.Taken.the-variants.{Word as Took, NoWord, NotFinite}
-use Rattle.layout.specs.Plain.{wordsIn}
+use Rattle.layout.specs.Fields.{wordsIn}
 use Rattle.sheet.specs.Reader.{formulaRead, HasFormula}
 use Rattle.sheet.specs.declared.answers.Found.{Found}
 use Rattle.sheet.proofs.FormulasGiven.{given-scale, given-fits, given-found}

@@ -4,7 +4,7 @@ use lib.Signed.{clashℤ}
 use Rattle.word.specs.Words.{Scale}
 use Rattle.formula.specs.declared.Formula.{Formula}
 use Rattle.formula.specs.Formula.{answerOf, Answerable}
-use Rattle.layout.specs.Plain.{wordsIn}
+use Rattle.layout.specs.Fields.{wordsIn}
 use Rattle.sheet.specs.Reader.{Fit}
 use Rattle.board.specs.Board.{refused, answered, answerAt}
 use Rattle.board.specs.declared.answers.Evaluation.{Evaluation}

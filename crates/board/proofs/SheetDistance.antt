@@ -5,7 +5,7 @@ use Rattle.polynomial.specs.Distance.{exactSum, spreadSum}
 use Rattle.formula.proofs.Distance.{polynomialShape, polynomial-distance}
 use Rattle.formula.specs.declared.Shape.{Shape}
 use Rattle.formula.specs.Formula.{Sound, answerOf}
-use Rattle.layout.specs.Plain.{wordsIn}
+use Rattle.layout.specs.Fields.{wordsIn}
 use Rattle.sheet.specs.Reader.{HasFormula}
 use Rattle.sheet.proofs.FormulasGiven.{given-fits}
 use Rattle.board.specs.Board.{evaluationWord, evaluated}

@@ -8,7 +8,7 @@ use Rattle.door.specs.Taken.{takenOf}
 use Rattle.door.specs.declared.answer.Ends.{Ends}
 use Rattle.door.specs.declared.answer.Taken.{Taken}
 use Rattle.door.specs.declared.answer.Taken.the-variants.{Word as Took, NoWord, NotFinite}
-use Rattle.layout.specs.Plain.{wordsIn}
+use Rattle.layout.specs.Fields.{wordsIn}
 use Rattle.faults.specs.Refusals.{OneOf}
 use Rattle.faults.specs.declared.Refusal.{Refusal}
 use Rattle.faults.proofs.FaultSets.{one-of}

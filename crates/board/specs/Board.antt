@@ -11,13 +11,12 @@ use Rattle.formula.specs.declared.Kind.the-variants.{Polynomial}
 use Rattle.formula.specs.declared.Formula.{Formula}
 use Rattle.formula.specs.Formula.{answerOf}
 use Rattle.polynomial.specs.Polynomial.{horner}
-use Rattle.layout.specs.Fields.{shape, padded, formula}
+use Rattle.layout.specs.Fields.{shape, padded, formula, wordsIn}
 use Rattle.door.specs.declared.answer.Taken.{Taken}
 use Rattle.door.specs.declared.answer.Taken.the-variants.{Word, NoWord, NotFinite}
 use Rattle.door.specs.Taken.{takenOf, takenNumber, takenPlace}
 use Rattle.door.specs.Exact.{Exactly}
 use Rattle.faults.specs.Guard.{refusal}
-use Rattle.layout.specs.Plain.{wordsIn}
 use Rattle.sheet.specs.Reader.{readerRefusals, formulaRead}
 use Rattle.sheet.specs.declared.answers.Found.{Found}
 use Rattle.sheet.specs.declared.answers.Found.the-variants.{Given, Refused as Withheld}

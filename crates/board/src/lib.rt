@@ -17,7 +17,6 @@ use answers::Shown;
 use answers::Worked;
 use door::answer::Taken;
 use faults::Refusal;
-use layout::fields;
 use sheet::answers::Place;
 use sheet::reader;
 
@@ -31,8 +30,8 @@ fn word_at(b: &[u8], x: i32, s: u32) -> i32
     requires { ⌜ RecordOf FormulaRecord (now b) × Answerable s (shapeOf (rowFor (now b)) (now b)) (wordsOf (rowFor (now b)) (now b)) x ⌝ }
     ensures { λ r. ⌜ r ≡ answerOf s (shapeOf (rowFor (now (b .entry))) (now (b .entry))) (wordsOf (rowFor (now (b .entry))) (now (b .entry))) x ⌝ }
 {
-    let row = table::row_of(fields::code(b));
-    formula::answer(b, row.head, fields::shape_of(b, row), x, s)
+    let row = table::row_of(layout::code(b));
+    formula::answer(b, row.head, layout::shape_of(b, row), x, s)
 }
 
 // The formula's answer where x lies in its interval, both ends inside.
@@ -40,10 +39,10 @@ fn answer_of(b: &[u8], x: i32, s: u32) -> Evaluation
     requires { ⌜ Scale s × FormulaBytes s (now b) ⌝ }
     ensures { λ r. ⌜ r ≡ answerAt s (formulaIn (now (b .entry))) x ⌝ }
 {
-    if x < fields::lo(b) {
+    if x < layout::lo(b) {
         return refused(10);
     }
-    if fields::hi(b) < x {
+    if layout::hi(b) < x {
         return refused(10);
     }
     let word = word_at(b, x, s);
@@ -54,7 +53,7 @@ pub fn evaluate(s: &[u8], number: u16, x: i32, places: u32) -> Evaluation
     ensures { λ r. ⌜ r ≡ evaluated places (now (s .entry)) number x ⌝ }
 {
     match reader::formula_place(s, number, places) {
-        Place::At(place) => answer_of(fields::record_at(s, place), x, places),
+        Place::At(place) => answer_of(layout::record_at(s, place), x, places),
         Place::Refused(r) => Evaluation::Refused(r),
     }
 }
@@ -85,7 +84,7 @@ pub fn evaluate_double(s: &[u8], number: u16, x: f64, places: u32) -> Shown
     ensures { λ r. ⌜ ShownAs places (evaluatedDouble places (now (s .entry)) number x) r ⌝ }
 {
     match reader::formula_place(s, number, places) {
-        Place::At(place) => shown(taken_of(fields::record_at(s, place), x, places), places),
+        Place::At(place) => shown(taken_of(layout::record_at(s, place), x, places), places),
         Place::Refused(r) => Shown::Refused(r),
     }
 }
@@ -94,8 +93,8 @@ fn ends_of(b: &[u8], s: u32) -> Interval
     requires { ⌜ Scale s × FormulaBytes s (now b) ⌝ }
     ensures { λ r. ⌜ IntervalBy s Given (formulaIn (now (b .entry))) r ⌝ }
 {
-    let lo = fields::lo(b);
-    let hi = fields::hi(b);
+    let lo = layout::lo(b);
+    let hi = layout::hi(b);
     Interval::Between(door::ends(lo, hi, s))
 }
 
@@ -103,7 +102,7 @@ pub fn interval(s: &[u8], number: u16, places: u32) -> Interval
     ensures { λ r. ⌜ IntervalAs places (formulaRead places (now (s .entry)) number) r ⌝ }
 {
     match reader::formula_place(s, number, places) {
-        Place::At(place) => ends_of(fields::record_at(s, place), places),
+        Place::At(place) => ends_of(layout::record_at(s, place), places),
         Place::Refused(r) => Interval::Refused(r),
     }
 }

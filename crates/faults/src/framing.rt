@@ -8,7 +8,6 @@ ghost use Rattle.layout.specs.Fields.{countOf};
 ghost use Rattle.faults.specs.Guard.{orElse};
 ghost use Rattle.faults.specs.Faults.{lengthFault, startFault, endFault};
 use crate::parts;
-use layout::fields;
 use table::Row;
 
 fn bare_fault(b: &[u8], row: Row) -> u8
@@ -32,7 +31,7 @@ pub fn start_fault(b: &[u8]) -> u8
         return f;
     }
     let count = row.count;
-    parts::outside(count, fields::count(b), 4)
+    parts::outside(count, layout::count(b), 4)
 }
 
 // The same count as the start's, and as many formulas (4).
@@ -57,5 +56,5 @@ pub fn end_fault(b: &[u8], seen: u16, count: u16) -> u8
     if f != 0 {
         return f;
     }
-    count_fault(seen, count, fields::count(b))
+    count_fault(seen, count, layout::count(b))
 }

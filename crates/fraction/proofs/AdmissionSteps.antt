@@ -1,5 +1,5 @@
 -- Admission of a fraction, step by step, as the code meets it.
-use Rattle.whole.proofs.Basics.{_≡_, _∙_, refl, sym, ap, ap₂, subst, Bool, true, false, cond, List, ℕ, suc, zero, _+_, _-_, _*_, _≤_, _<_, arith, eqb, ltb, length, getD, ℤ, pos, natAbs, eqb-true, eqb-false, ltb-false, lt-ltb, le-ltb}
+use Rattle.whole.proofs.Basics.{_≡_, refl, Bool, true, false, cond, List, ℕ, suc, zero, _+_, _-_, _*_, _≤_, _<_, arith, eqb, ltb, length, getD, ℤ, pos, natAbs, eqb-true, eqb-false, ltb-false, le-ltb}
 use native.Mathlib.Nat.{mul-le-mul, mul-le-mul-left}
 use lib.ListN.{List·getD-eq-default}
 use lib.Pow.{pow-mono}
@@ -8,9 +8,8 @@ use Rattle.word.proofs.RoundedLaws.{up-least}
 use Rattle.admission.specs.Admission.{ranged}
 use Rattle.admission.specs.declared.Admission.{Admission}
 use Rattle.admission.specs.declared.Admission.the-variants.{Admitted, RangeLeft, DivisorZero}
-use Rattle.admission.proofs.AdmissionLaws.{apart-yes, apart-no}
 use Rattle.fraction.specs.Fraction.{bAt, aAfter, at, firstOf}
-use Rattle.fraction.specs.Admission.{gBound, qBound, admitFrom, admitInner, fractionAdmission, termBound, judgedTerm}
+use Rattle.fraction.specs.Admission.{gBound, qBound, admitFrom, admitInner, fractionAdmission, judgedTerm}
 use Rattle.fraction.specs.declared.TermBound.{TermBound}
 use Rattle.fraction.specs.declared.TermBound.the-variants.{Least, Beyond}
 
@@ -25,86 +24,47 @@ quotient-most s a d h f g =
     omega arith
 
 beyond-not : {l : ℕ} → Beyond ≡ Least l → ⊥
-beyond-not e = let z : _≡_ {A = ℕ} 0 1 = ap tag e in omega arith
+beyond-not e = let z : _≡_ {A = ℕ} 0 1 = cc in omega arith
+
+-- a term that leaves something stands between words
+pub judged-least : (s : ℕ) (a b : ℤ) (v L l : ℕ) → judgedTerm s a b v L ≡ Least l → Word a × Word b
+judged-least s a b v L l e = at (ltb 2147483647 (natAbs a)) refl (ltb 2147483647 (gBound s a v)) (ltb 2147483647 (natAbs b + qBound s a v L)) refl e
   where
-    tag : TermBound → ℕ
-    tag Beyond = 0
-    tag (Least l) = 1
-
--- ---- one term: g, q and c are what the code has for G, Q and |b|
-module _ (s : ℕ) (a b : ℤ) (v L g : ℕ) (eg : g ≡ gBound s a v) where
-  abbrev chain : ℕ → ℕ → ℕ → TermBound
-  chain g q c = cond (ltb 2147483647 g) Beyond (cond (ltb 2147483647 (c + q)) Beyond (Least (c - q)))
-
-  at-code : (q c : ℕ) → q ≡ boundQuotient s g L → c ≡ natAbs b → termBound s a b v L ≡ chain g q c
-  at-code q c eq ec =
-      ap (λ (k : ℕ). chain k (boundQuotient s k L) (natAbs b)) (sym eg)
-      ∙ ap₂ (chain g) (sym eq) (sym ec)
-
-  pub term-left : 2147483647 < g → Beyond ≡ termBound s a b v L
-  term-left h =
-      let q = boundQuotient s g L in
-      sym (at-code q (natAbs b) refl refl ∙ ap (λ (t : Bool). cond t Beyond (cond (ltb 2147483647 (natAbs b + q)) Beyond (Least (natAbs b - q)))) (lt-ltb 2147483647 g h))
-
-  module _ (h : g ≤ 2147483647) (q c : ℕ) (eq : q ≡ boundQuotient s g L) (ec : c ≡ natAbs b) where
-    after : termBound s a b v L ≡ cond (ltb 2147483647 (c + q)) Beyond (Least (c - q))
-    after = at-code q c eq ec ∙ ap (λ (t : Bool). cond t Beyond (cond (ltb 2147483647 (c + q)) Beyond (Least (c - q)))) (le-ltb 2147483647 g h)
-
-    pub sum-left : 2147483647 < c + q → Beyond ≡ termBound s a b v L
-    sum-left k = sym (after ∙ ap (λ (t : Bool). cond t Beyond (Least (c - q))) (lt-ltb 2147483647 (c + q) k))
-
-    pub least-is : c + q ≤ 2147483647 → (l : ℕ) → l ≡ c - q → Least l ≡ termBound s a b v L
-    least-is k l e = ap Least e ∙ sym (after ∙ ap (λ (t : Bool). cond t Beyond (Least (c - q))) (le-ltb 2147483647 (c + q) k))
-
--- ---- of stored numbers
-module _ (s : ℕ) (a b : ℤ) (v L : ℕ) where
-  pub judged-no : 2147483647 < natAbs a → Beyond ≡ judgedTerm s a b v L
-  judged-no h = sym (ap (λ (t : Bool). cond t Beyond (termBound s a b v L)) (lt-ltb 2147483647 (natAbs a) h))
-
-  pub judged-is : Word a → judgedTerm s a b v L ≡ termBound s a b v L
-  judged-is h = ap (λ (t : Bool). cond t Beyond (termBound s a b v L)) (le-ltb 2147483647 (natAbs a) h)
-
-  -- a term that leaves something stands between words
-  pub judged-least : (l : ℕ) → judgedTerm s a b v L ≡ Least l → Word a × Word b
-  judged-least l e = at (ltb 2147483647 (natAbs a)) refl (ltb 2147483647 (gBound s a v)) (ltb 2147483647 (natAbs b + qBound s a v L)) refl e
-    where
-      at : (t : Bool) → ltb 2147483647 (natAbs a) ≡ t → (u w : Bool) → ltb 2147483647 (natAbs b + qBound s a v L) ≡ w
-          → cond t Beyond (cond u Beyond (cond w Beyond (Least (natAbs b - qBound s a v L)))) ≡ Least l → Word a × Word b
-      at true h u w k e = absurd (beyond-not e)
-      at false h true w k e = absurd (beyond-not e)
-      at false h false true k e = absurd (beyond-not e)
-      at false h false false k e = (ltb-false 2147483647 (natAbs a) h, omega (arith, ltb-false 2147483647 (natAbs b + qBound s a v L) k))
+    at : (t : Bool) → ltb 2147483647 (natAbs a) ≡ t → (u w : Bool) → ltb 2147483647 (natAbs b + qBound s a v L) ≡ w
+        → cond t Beyond (cond u Beyond (cond w Beyond (Least (natAbs b - qBound s a v L)))) ≡ Least l → Word a × Word b
+    at true h u w k e = absurd (beyond-not e)
+    at false h true w k e = absurd (beyond-not e)
+    at false h false true k e = absurd (beyond-not e)
+    at false h false false k e = (ltb-false 2147483647 (natAbs a) h, omega (arith, ltb-false 2147483647 (natAbs b + qBound s a v L) k))
 
 -- ---- the walk: what a term's bound says of it, at j = i + 1
 abbrev pub afterTerm : ℕ → ℕ → ℕ → List ℤ → ℕ → TermBound → Admission
 afterTerm s first rest ws i (Least l) = admitFrom s first rest ws i l
 afterTerm s first rest ws i Beyond = RangeLeft
 
-joined : (b c : Bool) (r : Admission) (s first rest : ℕ) (ws : List ℤ) (i l : ℕ) → r ≡ admitFrom s first rest ws i l → cond b RangeLeft (cond c RangeLeft r) ≡ afterTerm s first rest ws i (cond b Beyond (cond c Beyond (Least l)))
-joined true c r s first rest ws i l e = refl
-joined false true r s first rest ws i l e = refl
-joined false false r s first rest ws i l e = e
-
 module _ (s first rest : ℕ) (ws : List ℤ) (j L : ℕ) where
   pub walk-done : j ≡ 0 → Admitted ≡ admitFrom s first rest ws j L
   unfolding admitFrom
-  walk-done e = sym (ap (λ (k : ℕ). admitFrom s first rest ws k L) e)
+  walk-done e = rw e
 
   module _ (i : ℕ) (e : j ≡ suc i) where
     pub walk-zero : L ≡ 0 → DivisorZero ≡ admitFrom s first rest ws j L
     unfolding admitFrom
-    walk-zero h = sym (ap (λ (k : ℕ). admitFrom s first rest ws k L) e ∙ apart-yes L _ (omega arith))
+    walk-zero h = rw (e, h)
 
-    pub walk-step : 0 < L → (r : TermBound) → r ≡ termBound s (aAfter ws i) (bAt ws i) (at first rest i) L → admitFrom s first rest ws j L ≡ afterTerm s first rest ws i r
+    pub walk-step : Word (aAfter ws i) → 0 < L → (r : TermBound) → r ≡ judgedTerm s (aAfter ws i) (bAt ws i) (at first rest i) L → admitFrom s first rest ws j L ≡ afterTerm s first rest ws i r
     unfolding admitFrom
-    walk-step h r f =
+    walk-step w h r f =
         let a = aAfter ws i in
         let b = natAbs (bAt ws i) in
         let v = at first rest i in
-        ap (λ (k : ℕ). admitFrom s first rest ws k L) e
-        ∙ apart-no L _ (omega arith)
-        ∙ joined (ltb 2147483647 (gBound s a v)) (ltb 2147483647 (b + qBound s a v L)) (admitFrom s first rest ws i (b - qBound s a v L)) s first rest ws i (b - qBound s a v L) refl
-        ∙ ap (afterTerm s first rest ws i) (sym f)
+        rw (e, f, le-ltb 2147483647 (natAbs a) w, le-ltb L 1 (omega arith))
+        (joined (ltb 2147483647 (gBound s a v)) (ltb 2147483647 (b + qBound s a v L)) (b - qBound s a v L))
+      where
+        joined : (t u : Bool) (l : ℕ) → cond t RangeLeft (cond u RangeLeft (admitFrom s first rest ws i l)) ≡ afterTerm s first rest ws i (cond t Beyond (cond u Beyond (Least l)))
+        joined true u l = refl
+        joined false true l = refl
+        joined false false l = refl
 
 -- ---- every number from a place on is a word
 abbrev pub WordsFrom : List ℤ → ℕ → Type 0
@@ -115,7 +75,7 @@ pub none-behind : (ws : List ℤ) (n : ℕ) → length ws ≡ n + 1 → Word (ge
 none-behind ws n e h i g = at (eqb i n) refl
   where
     at : (t : Bool) → eqb i n ≡ t → Word (getD ws i (pos 0))
-    at true q = subst (λ (k : ℕ). Word (getD ws k (pos 0))) (sym (eqb-true i n q)) h
+    at true q = rw (eqb-true i n q) h
     at false q = rw (List·getD-eq-default ws (pos 0) {n = i} (let d = eqb-false i n q in omega (arith, e))) (omega arith)
 
 -- and two more in front: b_i and a_(i+1)
@@ -123,14 +83,11 @@ pub two-more : (ws : List ℤ) (i : ℕ) → Word (aAfter ws i) → Word (bAt ws
 two-more ws i a b h k g = at (eqb k (i + i)) refl (eqb k (i + i + 1)) refl
   where
     at : (t : Bool) → eqb k (i + i) ≡ t → (u : Bool) → eqb k (i + i + 1) ≡ u → Word (getD ws k (pos 0))
-    at true q u r = subst (λ (n : ℕ). Word (getD ws n (pos 0))) (sym (eqb-true k (i + i) q)) b
-    at false q true r = subst (λ (n : ℕ). Word (getD ws n (pos 0))) (sym (eqb-true k (i + i + 1) r)) a
+    at true q u r = rw (eqb-true k (i + i) q) b
+    at false q true r = rw (eqb-true k (i + i + 1) r) a
     at false q false r = h k (let d = eqb-false k (i + i) q in let e = eqb-false k (i + i + 1) r in omega arith)
 
 -- ---- by the mode
-pub mode-zero : (s A mode : ℕ) (ws : List ℤ) (k : ℕ) → mode ≡ 0 → admitInner s A A ws k ≡ fractionAdmission s A mode ws k
-mode-zero s A mode ws k e = sym (ap (λ (m : ℕ). fractionAdmission s A m ws k) e)
-
 pub mode-more : (s A mode : ℕ) (ws : List ℤ) (k S : ℕ) → ¬ (mode ≡ 0) → S ≡ boundProduct s A A → fractionAdmission s A mode ws k ≡ ranged S (admitInner s (firstOf mode A S) S ws k)
 mode-more s A zero ws k S h e = absurd (h refl)
-mode-more s A (suc m) ws k S h e = ap (λ (b : ℕ). ranged b (admitInner s (firstOf (suc m) A b) b ws k)) (sym e)
+mode-more s A (suc m) ws k S h e = rw e

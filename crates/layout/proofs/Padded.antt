@@ -1,15 +1,11 @@
 -- Runs of words, and the array that holds one.
-use Rattle.whole.proofs.Basics.{_≡_, refl, sym, subst, List, [], _∷_, _++_, append-assoc, ℕ, suc, zero, _+_, _-_, _*_, _≤_, _<_, arith, length, take, getD, length-append, ℤ, pos, w32, SFits}
-use lib.ListN.{set, replicate, length-replicate}
+use Rattle.whole.proofs.Basics.{_≡_, subst, List, [], _∷_, _++_, append-assoc, ℕ, suc, _+_, _-_, _*_, _<_, arith, length, take, length-append, ℤ, pos}
+use lib.ListN.{set, replicate}
 use lib.Seq.{set-append-seam, take-append-seam}
 use Rattle.stored.specs.Numbers.{word4}
 use Rattle.stored.specs.Words.{words}
 use Rattle.stored.proofs.WordsLaws.{length-words, words-snoc}
 use Rattle.layout.specs.Fields.{padded}
-
-pub padded-most : (l : List ℤ) → 32 ≤ length (padded l)
-unfolding padded
-padded-most l = simp (length-append, length-replicate) (omega arith)
 
 pub take-padded : (l : List ℤ) → take (length l) (padded l) ≡ l
 unfolding padded
@@ -29,27 +25,3 @@ turn b at i a v h e f =
     let n : length (words b at i) ≡ i = length-words b at i in
     rw (e, f, words-snoc b at i) (subst (λ (k : ℕ). set (padded (words b at i)) k (word4 b (at + 4 * i)) ≡ padded (words b at i ++ (word4 b (at + 4 * i) ∷ []))) n
     (padded-more (words b at i) (word4 b (at + 4 * i)) (omega arith)))
-
--- ---- where each word of a list fits, past whose end there is 0
-
--- so does each of the first ones
-pub each-first : (m : ℕ) (ws : List ℤ) → ((k : ℕ) → SFits w32 (getD ws k (pos 0))) → (k : ℕ) → SFits w32 (getD (take m ws) k (pos 0))
-each-first zero ws h k = record { sfits = omega arith }
-each-first (suc m) [] h k = h k
-each-first (suc m) (z ∷ zs) h zero = h 0
-each-first (suc m) (z ∷ zs) h (suc k) = each-first m zs (λ i. h (suc i)) k
-
--- and each of the array
-zeros : (n k : ℕ) → getD (replicate n (pos 0)) k (pos 0) ≡ pos 0
-zeros zero k = refl
-zeros (suc n) zero = refl
-zeros (suc n) (suc k) = zeros n k
-
-behind : (l : List ℤ) (n k : ℕ) → getD (l ++ replicate n (pos 0)) k (pos 0) ≡ getD l k (pos 0)
-behind [] n k = zeros n k
-behind (z ∷ l) n zero = refl
-behind (z ∷ l) n (suc k) = behind l n k
-
-pub each-padded : (l : List ℤ) → ((k : ℕ) → SFits w32 (getD l k (pos 0))) → (k : ℕ) → SFits w32 (getD (padded l) k (pos 0))
-unfolding padded
-each-padded l h k = subst (SFits w32) (sym (behind l (32 - length l) k)) (h k)

@@ -5,14 +5,14 @@ use mathlib.Core.List.{List, [], _∷_, _++_}
 use mathlib.Core.Bool.{cond}
 use lib.Dec.{eqb}
 use lib.ListN.{length, take, drop, replicate}
-use lib.IntN.{ℤ, pos}
+use lib.IntN.{ℤ, pos, negsuc}
 use Rattle.stored.specs.Numbers.{number2, number4, word4}
 use Rattle.stored.specs.Words.{words}
 use Rattle.formula.specs.declared.Kind.{Kind}
 use Rattle.formula.specs.declared.Kind.the-variants.{Polynomial, Rational}
 use Rattle.formula.specs.declared.Shape.{Shape}
 use Rattle.formula.specs.declared.Formula.{Formula}
-use Rattle.formula.specs.Formula.{storedWords}
+use Rattle.formula.specs.Formula.{wordCount, storedWords}
 use Rattle.table.specs.declared.Class.the-variants.{FormulaRecord}
 use Rattle.table.specs.declared.Field.{Field}
 use Rattle.table.specs.declared.Row.{Row}
@@ -75,6 +75,13 @@ formula n h l u w = record { number = n; shape = h; lo = l; hi = u; words = w }
 unfoldable pub formulaOf : Row → List ℕ → Formula
 formulaOf r b = formula (formulaNumber b) (shapeOf r b) (loOf b) (hiOf b) (padded (wordsOf r b))
 
+-- a formula's own words: as many of the array's as its kind and counts ask for
+abbrev pub wordsBy : Shape → List ℤ → List ℤ
+wordsBy h ws = take (wordCount (h .kind) (h .p) (h .q)) ws
+
+abbrev pub wordsIn : Formula → List ℤ
+wordsIn f = wordsBy (f .shape) (f .words)
+
 -- ---- counts in their ranges, and the length that they ask for
 pub record Laid (r : Row) (b : List ℕ) : Type 0 where
   pub p : Within (r .p) (shapeOf r b .p)
@@ -97,6 +104,11 @@ by-length = refl
 by-fields : shapeOf (rowOf 0x0011) (replicate 16 0 ++ (3 ∷ 0 ∷ 2 ∷ 0 ∷ [])) ≡ shape Rational 3 2 0
 unfolding rows firstRow rowOf number2 firstCount fieldOf shapeOf
 by-fields = refl
+
+-- a polynomial of two coefficients has two words
+two-words : wordsIn (formula 1 (shape Polynomial 2 0 0) (pos 0) (pos 5) (padded (negsuc 3 ∷ pos 0 ∷ []))) ≡ negsuc 3 ∷ pos 0 ∷ []
+unfolding padded
+two-words = refl
 
 -- the second record of two, of three and of two bytes more than their lengths
 cut-out : bytesAt (5 ∷ 0 ∷ 0 ∷ 0 ∷ 7 ∷ 6 ∷ 0 ∷ 0 ∷ 0 ∷ 8 ∷ 9 ∷ 1 ∷ []) 5 ≡ 6 ∷ 0 ∷ 0 ∷ 0 ∷ 8 ∷ 9 ∷ []

@@ -1,4 +1,2 @@
--- Sheet layout, as document 01 has it.
+-- What a record's bytes say, as document 01 has it.
 pub mod Fields
-pub mod Plain
-pub mod Bytes

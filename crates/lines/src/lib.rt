@@ -9,7 +9,6 @@ ghost use Rattle.text.specs.Text.{Puts};
 ghost use Rattle.lines.specs.Listing.{places, kindName, intervalText, lineOf, linesFrom, countLine, refusalLine, listing};
 use faults::Refusal;
 use formula::Kind;
-use layout::fields;
 use sheet::answers::FormulaCount;
 use sheet::reader;
 
@@ -46,12 +45,12 @@ fn put_line(out: &mut [u8], at: usize, b: &[u8]) -> usize
     requires { ⌜ (at + 41 ≤ length (now out)) × (16 ≤ length (now b)) ⌝ }
     ensures { λ r. ⌜ Puts (now (out .entry)) at (lineOf (formulaIn (now (b .entry)))) (now (out .exit)) r × (r ≤ at + 41) ⌝ }
 {
-    let row = table::row_of(fields::code(b));
+    let row = table::row_of(layout::code(b));
     let kind = row.kind;
-    let c = text::put_decimal(out, at, fields::number(b) as usize);
+    let c = text::put_decimal(out, at, layout::number(b) as usize);
     let d = text::put_text(out, c, b" ");
     let e = put_kind(out, d, kind);
-    put_interval(out, e, fields::lo(b), fields::hi(b))
+    put_interval(out, e, layout::lo(b), layout::hi(b))
 }
 
 // The sheet has been accepted: its records are not checked again.
@@ -60,10 +59,10 @@ fn put_lines(out: &mut [u8], at: usize, s: &[u8], count: u16) -> usize
     ensures { λ r. ⌜ Puts (now (out .entry)) at (linesFrom count (now (s .entry)) (number4 (now (s .entry)) 0)) (now (out .exit)) r × (r ≤ at + 41 * count) ⌝ }
 {
     let mut end = at;
-    let mut place = fields::record_at(s, 0).len();
+    let mut place = layout::record_at(s, 0).len();
     let mut left = count;
     while 0 < left {
-        let b = fields::record_at(s, place);
+        let b = layout::record_at(s, place);
         end = put_line(out, end, b);
         place += b.len();
         left -= 1;

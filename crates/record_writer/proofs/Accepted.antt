@@ -4,8 +4,9 @@ use Rattle.word.specs.Words.{Scale}
 use Rattle.formula.specs.declared.Formula.{Formula}
 use Rattle.table.specs.declared.Class.the-variants.{FormulaRecord}
 use Rattle.table.specs.Table.{lengthBy}
-use Rattle.layout.specs.Plain.{Handed, wordsIn, plainBy, rowBy, plain}
-use Rattle.layout.proofs.RecordBack.{Tidy}
+use Rattle.layout.specs.Fields.{wordsIn}
+use Rattle.putting.specs.Plain.{Handed, plainBy, rowBy, plain}
+use Rattle.putting.proofs.RecordBack.{Tidy}
 use Rattle.faults.specs.Guard.{guard}
 use Rattle.faults.specs.Faults.{countFault, scaleFault}
 use Rattle.faults.proofs.ScaleLaws.{good-scale}

@@ -3,11 +3,10 @@ use Rattle.whole.proofs.Basics.{_≡_, _∙_, refl, sym, ap, ℕ, _≤_, arith,
 use Rattle.formula.specs.declared.Formula.{Formula}
 use Rattle.table.specs.declared.Row.{Row}
 use Rattle.table.proofs.Rule.{short}
-use Rattle.layout.specs.Fields.{rowFor, formulaNumber}
-use Rattle.layout.specs.Plain.{wordsIn}
-use Rattle.layout.specs.Bytes.{recordBytes}
-use Rattle.layout.proofs.RecordLaws.{length-record}
-use Rattle.layout.proofs.RecordBack.{Tidy, shape-again, lo-again, hi-again, words-again, size-again, row-back}
+use Rattle.layout.specs.Fields.{rowFor, formulaNumber, wordsIn}
+use Rattle.putting.specs.Bytes.{recordBytes}
+use Rattle.putting.proofs.RecordLaws.{length-record}
+use Rattle.putting.proofs.RecordBack.{Tidy, shape-again, lo-again, hi-again, words-again, size-again, row-back}
 use Rattle.faults.specs.Guard.{orElse}
 use Rattle.faults.specs.Faults.{countFault, sizeFault, lengthFault, orderFault}
 use Rattle.faults.proofs.Chain.{pass}

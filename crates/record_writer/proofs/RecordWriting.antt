@@ -7,11 +7,12 @@ use Rattle.table.specs.declared.Class.the-variants.{FormulaRecord}
 use Rattle.table.specs.declared.Row.{Row}
 use Rattle.table.specs.Table.{rowOf, lengthBy}
 use Rattle.table.specs.Codes.{codeFor}
-use Rattle.layout.specs.Plain.{Handed, wordsIn, plainShape, plainBy, rowBy, plain}
-use Rattle.layout.specs.Bytes.{Ready}
-use Rattle.layout.proofs.RecordLaws.{length-record}
-use Rattle.layout.proofs.RecordBack.{Tidy}
-use Rattle.layout.proofs.HandedLaws as handed
+use Rattle.layout.specs.Fields.{wordsIn}
+use Rattle.putting.specs.Plain.{Handed, plainShape, plainBy, rowBy, plain}
+use Rattle.putting.specs.Bytes.{Ready}
+use Rattle.putting.proofs.RecordLaws.{length-record}
+use Rattle.putting.proofs.RecordBack.{Tidy}
+use Rattle.putting.proofs.HandedLaws as handed
 use Rattle.faults.specs.Guard.{guard}
 use Rattle.faults.specs.Faults.{countFault, scaleFault}
 use Rattle.faults.proofs.Chain.{halts, goes}

@@ -5,7 +5,8 @@ use Rattle.table.specs.declared.Class.{Class}
 use Rattle.table.specs.declared.Class.the-variants.{StartRecord, FormulaRecord, EndRecord, Unknown}
 use Rattle.table.specs.declared.Row.{Row}
 use Rattle.table.specs.Table.{lengthBy}
-use Rattle.layout.specs.Plain.{wordsIn, rowBy, plain}
+use Rattle.layout.specs.Fields.{wordsIn}
+use Rattle.putting.specs.Plain.{rowBy, plain}
 use Rattle.faults.specs.Guard.{guard}
 use Rattle.faults.specs.Faults.{countFault, scaleFault}
 use Rattle.records.specs.Records.{valueFault, onlyFormula}

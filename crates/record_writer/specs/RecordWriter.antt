@@ -14,9 +14,9 @@ use Rattle.formula.specs.declared.Formula.{Formula}
 use Rattle.table.specs.declared.Row.{Row}
 use Rattle.table.specs.Table.{rows, firstRow, rowOf, piecesBy, lengthBy}
 use Rattle.table.specs.Codes.{codeFor}
-use Rattle.layout.specs.Fields.{shape, formula, padded, rowFor}
-use Rattle.layout.specs.Plain.{wordsIn, kept, plainShape, plainBy, rowBy, plain}
-use Rattle.layout.specs.Bytes.{frontBytes, headBytes, fieldBytes, fieldsBytes, wordBytes, recordBytes}
+use Rattle.layout.specs.Fields.{shape, formula, padded, rowFor, wordsIn}
+use Rattle.putting.specs.Plain.{kept, plainShape, plainBy, rowBy, plain}
+use Rattle.putting.specs.Bytes.{frontBytes, headBytes, fieldBytes, fieldsBytes, wordBytes, recordBytes}
 use Rattle.faults.specs.Guard.{guard, orElse}
 use Rattle.faults.specs.Faults.{outside, countFault, intervalFault, wordsFault, ownFault, scaleFault}
 use Rattle.records.specs.Records.{valueFault, onlyFormula, formulaFault}

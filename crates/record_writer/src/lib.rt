@@ -6,7 +6,7 @@ ghost use Rattle.word.specs.Words.{Scale};
 ghost use Rattle.table.specs.Table.{rowOf};
 ghost use Rattle.table.specs.Codes.{codeFor};
 ghost use Rattle.table.specs.declared.Class.the-variants.{FormulaRecord};
-ghost use Rattle.layout.specs.Plain.{rowBy, plain};
+ghost use Rattle.putting.specs.Plain.{rowBy, plain};
 ghost use Rattle.faults.specs.Guard.{guard};
 ghost use Rattle.faults.specs.Faults.{scaleFault};
 ghost use Rattle.record_writer.specs.Answers.{refusedBy, bufferAfter};
@@ -17,7 +17,6 @@ pub mod answers;
 use answers::Writing;
 use faults::parts;
 use formula::Formula;
-use layout::putting;
 
 // A record's bytes, copied if the reader's own check has nothing against them and there is room.
 fn copy_judged(bytes: &[u8], out: &mut [u8], s: u32) -> Writing

@@ -16,7 +16,6 @@ ghost use Rattle.faults.specs.Faults.{wordsFault};
 ghost use Rattle.records.specs.Records.{frontFault, judgedFault, onlyFormula, formulaFault};
 use admission::Admission;
 use faults::parts;
-use layout::fields;
 use table::Row;
 
 // All that comes before the words and admission: exact length (2); 4; 5; 6 of all but the words.
@@ -27,16 +26,16 @@ fn front_fault(b: &[u8], row: Row, seen: u16, count: u16, next: u32) -> u8
     if b.len() < row.head {
         return 2;
     }
-    let shape = fields::shape_of(b, row);
+    let shape = layout::shape_of(b, row);
     let f = parts::size_fault(row, shape, b.len());
     if f != 0 {
         return f;
     }
-    let g = parts::order_fault(seen, count, next, fields::number(b));
+    let g = parts::order_fault(seen, count, next, layout::number(b));
     if g != 0 {
         return g;
     }
-    parts::own_fault(row, shape, fields::lo(b), fields::hi(b))
+    parts::own_fault(row, shape, layout::lo(b), layout::hi(b))
 }
 
 // A number that is no word comes before 7 and 8. Admission never admits one, so the words are looked at only where it refuses.
@@ -69,7 +68,7 @@ fn most(b: &[u8]) -> u32
     requires { ⌜ 16 ≤ length (now b) ⌝ }
     ensures { λ r. ⌜ r ≡ mostOf (loOf (now (b .entry))) (hiOf (now (b .entry))) ⌝ }
 {
-    formula::most_of(fields::lo(b), fields::hi(b))
+    formula::most_of(layout::lo(b), layout::hi(b))
 }
 
 fn polynomial_fault(b: &[u8], seen: u16, count: u16, next: u32, s: u32) -> u8
@@ -81,7 +80,7 @@ fn polynomial_fault(b: &[u8], seen: u16, count: u16, next: u32, s: u32) -> u8
     if f != 0 {
         return f;
     }
-    let shape = fields::shape_of(b, row);
+    let shape = layout::shape_of(b, row);
     let found = polynomial::admit(b, row.head, shape.p as usize, most(b), s);
     admission_fault(b, row.head, found)
 }
@@ -95,7 +94,7 @@ fn rational_fault(b: &[u8], seen: u16, count: u16, next: u32, s: u32) -> u8
     if f != 0 {
         return f;
     }
-    let shape = fields::shape_of(b, row);
+    let shape = layout::shape_of(b, row);
     let found = rational::admit(b, row.head, shape.p as usize, shape.q as usize, most(b), s);
     admission_fault(b, row.head, found)
 }
@@ -109,7 +108,7 @@ fn fraction_fault(b: &[u8], seen: u16, count: u16, next: u32, s: u32) -> u8
     if f != 0 {
         return f;
     }
-    let shape = fields::shape_of(b, row);
+    let shape = layout::shape_of(b, row);
     let found = fraction::admit(b, row.head, shape.p as usize, shape.mode as u32, most(b), s);
     admission_fault(b, row.head, found)
 }
@@ -127,7 +126,7 @@ pub fn formula_fault(b: &[u8], seen: u16, count: u16, next: u32, s: u32) -> u8
     requires { ⌜ Scale s × (8 ≤ length (now b)) × (length (now b) ≤ 120) ⌝ }
     ensures { λ r. ⌜ r ≡ orElse (onlyFormula (rowFor (now (b .entry)) .class)) (formulaFault s (rowFor (now (b .entry))) (now (b .entry)) seen count next) ⌝ }
 {
-    match fields::code(b) {
+    match layout::code(b) {
         table::POLYNOMIAL => polynomial_fault(b, seen, count, next, s),
         table::RATIONAL => rational_fault(b, seen, count, next, s),
         table::FRACTION => fraction_fault(b, seen, count, next, s),

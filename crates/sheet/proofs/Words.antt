@@ -6,10 +6,9 @@ use Rattle.formula.specs.Formula.{wordCount, Sound, admissionOf}
 use Rattle.table.specs.declared.Class.the-variants.{FormulaRecord}
 use Rattle.table.specs.declared.Row.{Row}
 use Rattle.table.proofs.Rule.{ruled}
-use Rattle.layout.specs.Fields.{codeOf, rowFor, loOf, hiOf, shapeOf, wordsOf, padded, formulaOf, Complete}
+use Rattle.layout.specs.Fields.{codeOf, rowFor, loOf, hiOf, shapeOf, wordsOf, padded, formulaOf, Complete, wordsIn}
 use Rattle.layout.proofs.Complete.{complete}
 use Rattle.layout.proofs.Padded.{take-padded}
-use Rattle.layout.specs.Plain.{wordsIn}
 use Rattle.faults.proofs.Lengths.{laid}
 use Rattle.records.specs.Sheets.{RecordOf, FormulaBytes}
 use Rattle.records.proofs.Soundness.{admitted, sound-record}

@@ -12,8 +12,7 @@ use Rattle.formula.specs.declared.Kind.the-variants.{NoFormula}
 use Rattle.formula.specs.declared.Formula.{Formula}
 use Rattle.formula.specs.Formula.{Sound, admissionOf}
 use Rattle.table.specs.Table.{rows, firstRow, rowOf, piecesBy}
-use Rattle.layout.specs.Fields.{bytesAt, Reaches, rowFor, firstCount, fieldOf, shape, shapeOf, padded, formula, formulaOf}
-use Rattle.layout.specs.Plain.{wordsIn}
+use Rattle.layout.specs.Fields.{bytesAt, Reaches, rowFor, firstCount, fieldOf, shape, shapeOf, padded, formula, formulaOf, wordsIn}
 use Rattle.faults.specs.Faults.{frameFault, outside, countFault, sizeFault, lengthFault, startFault, scaleFault, orderFault, endFault, ownFault, intervalFault, wordsFault}
 use Rattle.faults.specs.Guard.{refusal}
 use Rattle.faults.specs.Refusals.{OneOf, sheetRefusals}

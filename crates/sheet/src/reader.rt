@@ -11,7 +11,6 @@ use faults::Refusal;
 use formula::Formula;
 use formula::Kind;
 use formula::Shape;
-use layout::fields;
 use walking::Walked;
 
 // Above every number: none is asked for.
@@ -74,7 +73,7 @@ fn formula_in(b: &[u8]) -> Formula
     requires { ⌜ RecordOf FormulaRecord (now b) ⌝ }
     ensures { λ r. ⌜ r ≡ formulaIn (now (b .entry)) ⌝ }
 {
-    fields::formula_of(b, table::row_of(fields::code(b)))
+    layout::formula_of(b, table::row_of(layout::code(b)))
 }
 
 pub fn read_formula(s: &[u8], number: u16, places: u32) -> Reading
@@ -83,7 +82,7 @@ pub fn read_formula(s: &[u8], number: u16, places: u32) -> Reading
     match formula_place(s, number, places) {
         Place::At(place) => Reading {
             found: Found::Given,
-            formula: formula_in(fields::record_at(s, place)),
+            formula: formula_in(layout::record_at(s, place)),
         },
         Place::Refused(r) => withheld(r),
     }

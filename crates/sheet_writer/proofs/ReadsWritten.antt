@@ -6,8 +6,8 @@ use mathlib.Core.List.{map}
 use Rattle.word.specs.Words.{Scale}
 use Rattle.formula.specs.declared.Formula.{Formula}
 use Rattle.layout.specs.Fields.{bytesAt, rowFor, formulaNumber, formulaOf}
-use Rattle.layout.specs.Plain.{Handed, plainBy, rowBy, plain}
-use Rattle.layout.proofs.RecordBack.{number-again, formula-back, row-back}
+use Rattle.putting.specs.Plain.{Handed, plainBy, rowBy, plain}
+use Rattle.putting.proofs.RecordBack.{number-again, formula-back, row-back}
 use Rattle.faults.specs.Faults.{scaleFault}
 use Rattle.records.specs.Sheets.{FormulaBytes, EachFormula, Rising, inLine, Has, RunOf, SheetOf}
 use Rattle.walking.specs.Walking.{walkOf}

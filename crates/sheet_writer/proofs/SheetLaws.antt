@@ -4,7 +4,7 @@ use Rattle.stored.proofs.StoreLaws.{length-bytes2, length-bytes4}
 use Rattle.table.specs.Table.{rows, firstRow}
 use Rattle.table.specs.Codes.{startRow, endRow}
 use Rattle.table.specs.declared.Row.{Row}
-use Rattle.layout.specs.Bytes.{frontBytes, framingBytes}
+use Rattle.putting.specs.Bytes.{frontBytes, framingBytes}
 use Rattle.sheet_writer.specs.SheetWriter.{added, sheetBytes}
 
 pub start-head : startRow .head ≡ 8

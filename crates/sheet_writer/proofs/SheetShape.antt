@@ -7,8 +7,8 @@ use Rattle.table.specs.declared.Row.{Row}
 use Rattle.table.specs.Table.{rows, firstRow, rowOf, piecesBy}
 use Rattle.table.specs.Codes.{startRow, endRow}
 use Rattle.layout.specs.Fields.{countOf, firstCount, fieldOf, shapeOf}
-use Rattle.layout.specs.Bytes.{frontBytes, framingBytes}
-use Rattle.layout.proofs.RecordBack.{number-back}
+use Rattle.putting.specs.Bytes.{frontBytes, framingBytes}
+use Rattle.putting.proofs.RecordBack.{number-back}
 use Rattle.faults.specs.Faults.{outside, countFault, sizeFault, lengthFault}
 use Rattle.faults.proofs.ScaleLaws.{no-scale-fault}
 use Rattle.records.specs.Sheets.{RecordOf, EachFormula, inLine, RunOf, SheetOf}

@@ -4,7 +4,7 @@ use Rattle.whole.proofs.Basics.{_≡_, _∙_, refl, sym, ap, ap₂, subst, inl,
 use Rattle.stored.specs.Numbers.{Bytes}
 use Rattle.formula.specs.declared.Formula.{Formula}
 use Rattle.layout.specs.Fields.{rowFor, formulaNumber, formulaOf}
-use Rattle.layout.proofs.BytesAgain.{bytes-left, bytes-right}
+use Rattle.putting.proofs.BytesAgain.{bytes-left, bytes-right}
 use Rattle.records.specs.Sheets.{EachFormula, inLine, SheetOf}
 use Rattle.sheet.specs.Reader.{formulaRead}
 use Rattle.sheet.specs.declared.answers.Reading.{Reading}

@@ -16,10 +16,10 @@ use Rattle.table.specs.Order.{fieldSize}
 use Rattle.table.proofs.CodeLaws.{code-found, row-by-kind, start-row, end-row}
 use Rattle.table.proofs.OrderLaws.{ordered}
 use Rattle.table.proofs.Rule.{ruled, start-length, end-length}
-use Rattle.layout.specs.Fields.{rowFor, codeOf, countOf, formulaNumber, loOf, hiOf, shape, formula, firstCount, fieldOf, shapeOf, wordsOf, padded, formulaOf}
-use Rattle.layout.specs.Plain.{kept, plainShape, plainBy, rowBy, plain, wordsBy, wordsIn}
-use Rattle.layout.specs.Bytes.{frontBytes, headBytes, fieldBytes, fieldsBytes, framingBytes, wordBytes, recordBytes}
-use Rattle.layout.proofs.BytesAgain.{bytes-left, bytes-right, glue, two-again, four-again, word-again, field-again, words-again}
+use Rattle.layout.specs.Fields.{rowFor, codeOf, countOf, formulaNumber, loOf, hiOf, shape, formula, firstCount, fieldOf, shapeOf, wordsOf, padded, formulaOf, wordsBy, wordsIn}
+use Rattle.putting.specs.Plain.{kept, plainShape, plainBy, rowBy, plain}
+use Rattle.putting.specs.Bytes.{frontBytes, headBytes, fieldBytes, fieldsBytes, framingBytes, wordBytes, recordBytes}
+use Rattle.putting.proofs.BytesAgain.{bytes-left, bytes-right, glue, two-again, four-again, word-again, field-again, words-again}
 use Rattle.layout.proofs.Complete.{exactly}
 use Rattle.faults.specs.Faults.{outside, intervalFault, ownFault, countFault, sizeFault, lengthFault}
 use Rattle.faults.proofs.Chain.{goes, passed, neither}

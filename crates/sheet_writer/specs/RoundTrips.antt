@@ -10,7 +10,7 @@ use Rattle.layout.specs.Fields.{formulaNumber}
 use Rattle.sheet.specs.Reader.{formulaCount, reading, formulaRead}
 use Rattle.sheet.specs.declared.answers.FormulaCount.the-variants.{Count}
 use Rattle.sheet.specs.declared.answers.Found.the-variants.{Given}
-use Rattle.layout.specs.Plain.{Handed, plain}
+use Rattle.putting.specs.Plain.{Handed, plain}
 use Rattle.record_writer.specs.RecordWriter.{recordWriting, bytesOf}
 use Rattle.record_writer.specs.declared.answers.Writing.the-variants.{Written}
 use Rattle.sheet_writer.specs.SheetWriter.{added, sheetWriting, sheetOf}

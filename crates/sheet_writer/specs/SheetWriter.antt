@@ -10,7 +10,7 @@ use Rattle.stored.specs.Words.{words}
 use Rattle.table.specs.Table.{rows, firstRow, rowOf, piecesBy}
 use Rattle.table.specs.Codes.{startRow, endRow}
 use Rattle.layout.specs.Fields.{bytesAt, firstCount, fieldOf, shapeOf}
-use Rattle.layout.specs.Bytes.{frontBytes, framingBytes}
+use Rattle.putting.specs.Bytes.{frontBytes, framingBytes}
 use Rattle.faults.specs.Faults.{frameFault, outside, countFault, sizeFault, lengthFault, orderFault, intervalFault, ownFault, wordsFault, scaleFault}
 use Rattle.faults.specs.Guard.{guard, refusal}
 use Rattle.faults.specs.Refusals.{recordRefusals}

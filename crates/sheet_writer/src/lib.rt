@@ -6,7 +6,6 @@ ghost use lib.Seq.{sets};
 ghost use Rattle.word.specs.Words.{Scale};
 ghost use Rattle.record_writer.specs.Answers.{bufferAfter};
 ghost use Rattle.sheet_writer.specs.SheetWriter.{added, runWalked, sheetBytes, walkedWriting, recordsIn, sheetWriting, sheetOf};
-use layout::putting;
 use record_writer::answers;
 use record_writer::answers::Writing;
 use sheet::reader;

@@ -8,7 +8,6 @@ ghost use Rattle.layout.specs.Fields.{rowFor};
 ghost use Rattle.walking.specs.Walking.{roomFor, begin, afterStart, foundBy, afterFormula, ending, startRecordFault, endRecordFault, otherRecordFault, recordFault, faultAt, walkOf, Walkable, Standing};
 use faults::Refusal;
 use faults::framing;
-use layout::fields;
 
 // Where the walk stands: the next record's place, the place of the record that is asked for (0: none yet), the number that is
 // asked for, the least number that the next formula may have, how many formulas there may be, and how many it has seen.
@@ -57,7 +56,7 @@ fn after_start(b: &[u8], w: Walk) -> Walk
 {
     Walk {
         at: b.len(),
-        count: fields::count(b),
+        count: layout::count(b),
         seen: 0,
         next: 0,
         asked: w.asked,
@@ -78,7 +77,7 @@ fn after_formula(b: &[u8], w: Walk) -> Walk
     requires { ⌜ (8 ≤ length (now b)) × (w .at + length (now b) < 18446744073709551616) × (w .seen < 65535) ⌝ }
     ensures { λ r. ⌜ r ≡ afterFormula (now (b .entry)) w ⌝ }
 {
-    let number = fields::number(b) as u32;
+    let number = layout::number(b) as u32;
     Walk {
         at: w.at + b.len(),
         count: w.count,
@@ -145,7 +144,7 @@ fn record_fault(b: &[u8], from: usize, w: Walk, s: u32) -> u8
     requires { ⌜ (8 ≤ length (now b)) × (length (now b) ≤ 120) × (¬ (w .at ≡ 0) → Scale s) ⌝ }
     ensures { λ r. ⌜ r ≡ recordFault s from (rowFor (now (b .entry))) (now (b .entry)) w ⌝ }
 {
-    match fields::code(b) {
+    match layout::code(b) {
         table::START => start_fault(b, w.at, s),
         table::END => end_fault(b, from, w),
         _ => formula_fault(b, w, s),
@@ -161,7 +160,7 @@ fn fault_at(bytes: &[u8], from: usize, w: Walk, s: u32) -> u8
     if f != 0 {
         return f;
     }
-    record_fault(fields::record_at(bytes, at), from, w, s)
+    record_fault(layout::record_at(bytes, at), from, w, s)
 }
 
 // A run is whole at its last byte. The test of `from` stands here, in the loop: the compiler then makes a loop of its own for a sheet
@@ -182,8 +181,8 @@ pub fn walk_over(bytes: &[u8], from: usize, asked: u32, s: u32) -> Walked
         if f != 0 {
             return refused(w.at, f);
         }
-        let b = fields::record_at(bytes, w.at - from);
-        match fields::code(b) {
+        let b = layout::record_at(bytes, w.at - from);
+        match layout::code(b) {
             table::START => {
                 w = after_start(b, w);
             }

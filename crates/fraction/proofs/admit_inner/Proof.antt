@@ -1,11 +1,12 @@
 -- `fraction::admit_inner` meets its contract. The invariant: the whole answer is the answer from depth j on, what stands there is
 -- apart from 0, and every number from b_j on is a word; so where it admits, all are.
-use Rattle.whole.proofs.Basics.{_≡_, _∙_, sym, ap, ap₂, subst, List, ℕ, suc, _+_, _-_, _≤_, _<_, arith, ℤ, natAbs, w32, needs}
+use Rattle.whole.proofs.Basics.{_≡_, _∙_, sym, ap, List, ℕ, _+_, _-_, _≤_, _<_, arith, ℤ, natAbs, w32, needs}
 use Rattle.whole.proofs.Held.{back, held, held-nat, given}
 use Rattle.word.specs.Words.{Word}
 use Rattle.stored.specs.Words.{words}
 use Rattle.stored.proofs.WordsLaws.{length-words}
 use Rattle.admission.specs.Admission.{Judged}
+use Rattle.admission.specs.declared.Admission.{Admission}
 use Rattle.admission.specs.declared.Admission.the-variants.{Admitted}
 use Rattle.admission.proofs.AdmissionLaws.{left-not, zero-not}
 use Rattle.fraction.specs.Fraction.{bAt, aAfter, at}
@@ -13,7 +14,7 @@ use Rattle.fraction.specs.Admission.{admitFrom, admitInner, judgedTerm}
 use Rattle.fraction.specs.declared.TermBound.{TermBound}
 use Rattle.fraction.specs.declared.TermBound.the-variants.{Least, Beyond}
 use Rattle.fraction.proofs.WalkLaws.{b-is, a-is}
-use Rattle.fraction.proofs.AdmissionSteps.{afterTerm, walk-done, walk-zero, walk-step, judged-is, judged-least, WordsFrom, none-behind, two-more}
+use Rattle.fraction.proofs.AdmissionSteps.{afterTerm, walk-done, walk-zero, walk-step, judged-least, WordsFrom, none-behind, two-more}
 use Rattle.fraction.proofs.admit_inner.Statement.{statement}
 use Rattle.fraction.proofs.admit_inner.Tie as tie
 
@@ -29,6 +30,13 @@ abbrev μ-loop : tie.MeasureT-loop
 
 abbrev ws : tie.Start Inv-loop μ-loop → List ℤ
 ws d = words (d .args .b .now) (d .args .at) (d .args .k + d .args .k + 1)
+
+-- the answer from a depth on, by the least size of what stands there, and the whole answer
+abbrev from : tie.Start Inv-loop μ-loop → ℕ → ℕ → Admission
+from d = admitFrom (d .args .s) (d .args .first) (d .args .rest) (ws d)
+
+abbrev whole : tie.Start Inv-loop μ-loop → Admission
+whole d = from d (d .args .k) (natAbs (bAt (ws d) (d .args .k)))
 
 -- the innermost number's size
 size-is : (m : tie.After-magnitude Inv-loop μ-loop) →
@@ -60,7 +68,7 @@ loop-holds c =
     let d = m .before .before .before in
     let k = d .args .k in (
       omega arith,
-      ap (admitFrom (d .args .s) (d .args .first) (d .args .rest) (ws d) k) (sym (size-is m)),
+      ap (from d k) (sym (size-is m)),
       omega (arith, c .if2 .left),
       none-behind (ws d) (k + k) (length-words (d .args .b .now) (d .args .at) (k + k + 1)) (omega (arith, size-is m, c .before .if1 .left)),
     )
@@ -88,9 +96,6 @@ module _ (c : tie.After-factor-bound Inv-loop μ-loop) where
   b-read : back w32 (c .before .get-word3 .result) ≡ bAt (ws start) (j - 1)
   b-read = held (given {w = w32} {x = c .before .get-word3 .result} (c .before .get-word3 .ok)) ∙ c .before .get-word3 .ensures ∙ b-is (start .args .b .now) (start .args .at) (start .args .k + start .args .k + 1) (j - 1) (omega (arith, inside))
 
-term-bound-requires : tie.Need-term-bound-requires Inv-loop μ-loop
-term-bound-requires c κs = (start c .pre .1 .0, loop c .before .loop .inv .2)
-
 -- ---- after a term's bound: it is that of the stored numbers
 module _ (c : tie.After-term-bound Inv-loop μ-loop) where
   abbrev term : tie.After-factor-bound Inv-loop μ-loop
@@ -106,30 +111,24 @@ module _ (c : tie.After-term-bound Inv-loop μ-loop) where
   factor = at (d .args .first) (d .args .rest) i
 
   bound-is : c .term-bound .result ≡ judgedTerm (d .args .s) (aAfter (ws d) i) (bAt (ws d) i) factor (l term)
-  bound-is =
-      c .term-bound .ensures
-      ∙ ap₂ (λ (x y : ℤ). judgedTerm (d .args .s) x y (term .factor-bound .result) (l term)) (a-read term) (b-read term)
-      ∙ ap (λ (v : ℕ). judgedTerm (d .args .s) (aAfter (ws d) i) (bAt (ws d) i) v (l term)) (term .factor-bound .ensures)
+  bound-is = rw (← term .factor-bound .ensures, ← a-read term, ← b-read term) (c .term-bound .ensures)
 
   -- the answer from depth j on, by what the bound of a word is
-  step : Word (aAfter (ws d) i) → (r : TermBound) → c .term-bound .result ≡ r → admitInner (d .args .s) (d .args .first) (d .args .rest) (ws d) (d .args .k) ≡ afterTerm (d .args .s) (d .args .first) (d .args .rest) (ws d) i r
+  step : Word (aAfter (ws d) i) → (r : TermBound) → c .term-bound .result ≡ r → whole d ≡ afterTerm (d .args .s) (d .args .first) (d .args .rest) (ws d) i r
   step h r e =
       loop term .before .loop .inv .1
-      ∙ walk-step (d .args .s) (d .args .first) (d .args .rest) (ws d) (j term) (l term) i (omega (arith, loop term .loop-test .taken)) (loop term .before .loop .inv .2) r
-      (sym e ∙ bound-is ∙ judged-is (d .args .s) (aAfter (ws d) i) (bAt (ws d) i) factor (l term) h)
+      ∙ walk-step (d .args .s) (d .args .first) (d .args .rest) (ws d) (j term) (l term) i (omega (arith, loop term .loop-test .taken)) h (loop term .before .loop .inv .2) r (sym e ∙ bound-is)
 
   -- where something is left: words, and the walk goes on from there
   module _ (least : ℕ) (e : c .term-bound .result ≡ Least least) where
     both : Word (aAfter (ws d) i) × Word (bAt (ws d) i)
     both = judged-least (d .args .s) (aAfter (ws d) i) (bAt (ws d) i) factor (l term) least (sym bound-is ∙ e)
 
-    on : admitInner (d .args .s) (d .args .first) (d .args .rest) (ws d) (d .args .k) ≡ admitFrom (d .args .s) (d .args .first) (d .args .rest) (ws d) i least
+    on : whole d ≡ from d i least
     on = step (both .0) (Least least) e
 
     words-on : WordsFrom (ws d) (i + i)
-    words-on =
-        let n : j term ≡ suc i = omega (arith, loop term .loop-test .taken) in
-        two-more (ws d) i (both .0) (both .1) (subst (λ (k : ℕ). WordsFrom (ws d) (k + k)) n (loop term .before .loop .inv .3))
+    words-on = two-more (ws d) i (both .0) (both .1) (λ k g. loop term .before .loop .inv .3 k (omega (arith, loop term .loop-test .taken)))
 
 returns-3 : tie.Need-returns-3 Inv-loop μ-loop
 returns-3 c =
@@ -137,9 +136,7 @@ returns-3 c =
     record { words = λ e. absurd (left-not e); same = λ h. sym (step b (h (i b + i b + 1)) Beyond (c .enum-told .given .1)) }
 
 -- at depth 0 all numbers are words, and nothing is divided by what stands there
-admitted : (d : tie.Start Inv-loop μ-loop) (j l : ℕ) → j ≡ 0
-    → admitInner (d .args .s) (d .args .first) (d .args .rest) (ws d) (d .args .k) ≡ admitFrom (d .args .s) (d .args .first) (d .args .rest) (ws d) j l → WordsFrom (ws d) (j + j)
-    → Judged (ws d) (admitInner (d .args .s) (d .args .first) (d .args .rest) (ws d) (d .args .k)) Admitted
+admitted : (d : tie.Start Inv-loop μ-loop) (j l : ℕ) → j ≡ 0 → whole d ≡ from d j l → WordsFrom (ws d) (j + j) → Judged (ws d) (whole d) Admitted
 admitted d j l z e h = record { words = λ q n. h n (omega arith); same = λ q. walk-done (d .args .s) (d .args .first) (d .args .rest) (ws d) j l z ∙ sym e }
 
 returns-4 : tie.Need-returns-4 Inv-loop μ-loop
@@ -190,7 +187,7 @@ admit-inner-spec =
     (λ c κs. search needs)
     (λ c κs. search needs)
     (λ c κs. search needs)
-    term-bound-requires
+    (λ c κs. (start c .pre .1 .0, loop c .before .loop .inv .2))
     (λ c. search needs)
     (λ c. search needs)
     returns-3

@@ -1,12 +1,12 @@
 -- `fraction::answer` meets its contract: the walk outward from b_k, with v1 and the other v's of the mode.
-use Rattle.whole.proofs.Basics.{_≡_, _∙_, sym, ap, ap₂, subst, List, ℕ, _+_, _<_, arith, length, ℤ, w32, needs}
+use Rattle.whole.proofs.Basics.{_≡_, _∙_, List, ℕ, _+_, _<_, arith, length, ℤ, w32, needs}
 use Rattle.whole.proofs.Fit.{fit-abs}
 use Rattle.whole.proofs.Held.{back, held, arg, known, given}
-use Rattle.word.specs.Words.{Word, Scale, productOf}
+use Rattle.word.specs.Words.{productOf}
 use Rattle.stored.specs.Words.{words}
 use Rattle.fraction.specs.Fraction.{bAt, firstOf, restOf}
 use Rattle.fraction.specs.Ready.{OutwardReady}
-use Rattle.fraction.proofs.WalkLaws.{b-is, outward-same, ready-same, first-rest}
+use Rattle.fraction.proofs.WalkLaws.{b-is, first-rest}
 use Rattle.fraction.proofs.StaysInRange.{rest-word, walk-ready}
 use Rattle.fraction.proofs.answer.Statement.{statement}
 use Rattle.fraction.proofs.answer.Tie as tie
@@ -42,10 +42,10 @@ module _ (c : tie.After-get-word) where
   start = c .before .before .before .before
 
   rest-is : back w32 (c .before .before .rest-of .result) ≡ restOf (mode start) (x start) (square start)
-  rest-is = held {w = w32} (known (c .before .before .rest-of .ensures ∙ ap (λ (z : ℤ). restOf (mode start) z (productOf (S start) z z)) (x-is start)) (fit-abs (omega (arith, ready start .rest-word))))
+  rest-is = held {w = w32} (known (rw (x-is start) at (c .before .before .rest-of .ensures)) (fit-abs (omega (arith, ready start .rest-word))))
 
   first-is : back w32 (c .before .first-of .result) ≡ firstOf (mode start) (x start) (square start)
-  first-is = held {w = w32} (known (c .before .first-of .ensures ∙ ap₂ (firstOf (mode start)) (x-is start) rest-is ∙ first-rest (x start) (square start) (mode start)) (fit-abs (omega (arith, ready start .first-word))))
+  first-is = held {w = w32} (known (rw (x-is start, rest-is) at (c .before .first-of .ensures) ∙ first-rest (x start) (square start) (mode start)) (fit-abs (omega (arith, ready start .first-word))))
 
   t-is : back w32 (c .get-word .result) ≡ bAt (ws start) (k start)
   t-is = held {w = w32} (known (c .get-word .ensures ∙ b-is (start .args .b .now) (start .args .at) (k start + k start + 1) (k start) (omega arith)) (fit-abs (omega (arith, ready start .t-word))))
@@ -53,21 +53,19 @@ module _ (c : tie.After-get-word) where
 rest-of-requires : tie.Need-rest-of-requires
 rest-of-requires c κs =
     let d = c .before in
-    subst (λ (z : ℤ). Scale (S d) × Word z × Word (restOf (mode d) z (productOf (S d) z z))) (sym (x-is d))
-    (d .pre .1 .scale, d .pre .1 .x-word, rest-word (S d) (mode d) (ws d) (k d) (x d) (d .pre .1))
+    rw (x-is d) (d .pre .1 .scale, d .pre .1 .x-word, rest-word (S d) (mode d) (ws d) (k d) (x d) (d .pre .1))
 
 outward-requires : tie.Need-outward-requires
 outward-requires c κs =
     let g = c .before in
     let d = start g in
     let l : length (d .args .b .now) < 18446744073709551616 = search needs in
-    (d .pre .0, omega (arith, d .pre .0), ready-same (S d) (ws d) (k d) (sym (first-is g)) (sym (rest-is g)) (sym (t-is g)) (ready d))
+    (d .pre .0, omega (arith, d .pre .0), rw (first-is g, rest-is g, t-is g) (ready d))
 
 returns : tie.Need-returns
 returns c =
     let g = c .before .before in
-    let d = start g in
-    held (given {w = w32} (c .outward .ok)) ∙ c .outward .ensures ∙ outward-same (S d) (ws d) (k d) (first-is g) (rest-is g) (t-is g)
+    rw (held (given {w = w32} (c .outward .ok))) (rw (first-is g, rest-is g, t-is g) at (c .outward .ensures))
 
 pub answer-spec : {M : Type 1} → statement M
 answer-spec =

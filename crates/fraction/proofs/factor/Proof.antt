@@ -1,15 +1,15 @@
 -- `fraction::factor` meets its contract.
-use Rattle.whole.proofs.Basics.{_∙_, sym}
+use Rattle.whole.proofs.Basics.{eq-eqb, ne-eqb}
 use Rattle.whole.proofs.Held.{held, arg}
-use Rattle.fraction.proofs.WalkLaws.{at-first, at-rest}
+use Rattle.fraction.proofs.WalkLaws.{at-is}
 use Rattle.fraction.proofs.factor.Statement.{statement}
 use Rattle.fraction.proofs.factor.Tie as tie
 
 returns : tie.Need-returns
-returns c = held (arg (c .before .fits .first)) ∙ sym (at-first (c .before .args .first) (c .before .args .rest) (c .before .args .i) (c .if1 .taken))
+returns c = rw (at-is, eq-eqb _ _ (c .if1 .taken)) (held (arg (c .before .fits .first)))
 
 returns-2 : tie.Need-returns-2
-returns-2 c = held (arg (c .before .fits .rest)) ∙ sym (at-rest (c .before .args .first) (c .before .args .rest) (c .before .args .i) (c .if1 .left))
+returns-2 c = rw (at-is, ne-eqb _ _ (c .if1 .left)) (held (arg (c .before .fits .rest)))
 
 pub factor-spec : {M : Type 1} → statement M
 factor-spec = tie.close (tie.spec returns returns-2)

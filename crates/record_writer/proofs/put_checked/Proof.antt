@@ -5,9 +5,9 @@ use lib.Seq.{sets, length-sets, length-take-le}
 use Rattle.formula.specs.declared.Formula.{Formula}
 use Rattle.table.specs.declared.Class.the-variants.{FormulaRecord}
 use Rattle.table.specs.Table.{rowOf}
-use Rattle.layout.specs.Plain.{Handed, plainShape, plainBy, rowBy, plain}
-use Rattle.layout.specs.Bytes.{Ready}
-use Rattle.layout.proofs.RecordLaws.{length-record}
+use Rattle.putting.specs.Plain.{Handed, plainShape, plainBy, rowBy, plain}
+use Rattle.putting.specs.Bytes.{Ready}
+use Rattle.putting.proofs.RecordLaws.{length-record}
 use Rattle.faults.specs.Faults.{countFault}
 use Rattle.faults.proofs.Chain.{halts, goes}
 use Rattle.faults.proofs.ScaleLaws.{good-scale}

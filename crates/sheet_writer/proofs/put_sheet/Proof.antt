@@ -5,7 +5,7 @@ use Rattle.stored.proofs.StoreLaws.{next}
 use Rattle.table.specs.Codes.{startRow, endRow, the-start, the-end}
 use Rattle.table.specs.declared.Row.{Row}
 use Rattle.table.proofs.Rule.{ruled}
-use Rattle.layout.specs.Bytes.{framingBytes}
+use Rattle.putting.specs.Bytes.{framingBytes}
 use Rattle.sheet_writer.proofs.SheetLaws.{start-head, end-head, length-framing}
 use Rattle.sheet_writer.proofs.put_sheet.Statement.{statement}
 use Rattle.sheet_writer.proofs.put_sheet.Tie as tie
