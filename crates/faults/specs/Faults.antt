@@ -15,7 +15,7 @@ use Rattle.formula.specs.declared.Shape.{Shape}
 use Rattle.table.specs.declared.Field.{Field}
 use Rattle.table.specs.declared.Row.{Row}
 use Rattle.table.specs.Table.{rows, firstRow, rowOf, piecesBy, lengthBy}
-use Rattle.layout.specs.Fields.{firstCount, fieldOf, shapeOf}
+use Rattle.layout.specs.Fields.{firstCount, fieldOf, shapeOf, shape}
 use Rattle.faults.specs.Guard.{orElse}
 
 -- ---- the frame: fewer than 4 bytes left (1); length outside 8..120 (2); fewer bytes than the length (1)
@@ -85,26 +85,73 @@ ownFault r h lo hi =
 unfoldable pub scaleFault : ℕ → ℕ
 scaleFault s = cond (ltb s 16) 6 (cond (ltb 28 s) 6 0)
 
--- ---- worked examples: a root of 16 bytes and of 20; the one pattern that is no word; lo above hi; 16 to 28 places
-root-length : lengthFault (rowOf 0x0013) (replicate 16 0) ≡ 0
-unfolding rows firstRow rowOf number2 firstCount fieldOf shapeOf piecesBy outside countFault sizeFault lengthFault
-root-length = refl
+-- ---- worked examples. The frame: a length of 7, 8, 120 and 121, each with as many bytes; 8 with one byte less; three bytes; 7 comes before too few bytes
+abbrev says : ℕ → ℕ → List ℕ
+says n more = n ∷ 0 ∷ 0 ∷ 0 ∷ replicate more 0
 
-root-too-long : lengthFault (rowOf 0x0013) (replicate 20 0) ≡ 2
-unfolding rows firstRow rowOf number2 firstCount fieldOf shapeOf piecesBy outside countFault sizeFault lengthFault
-root-too-long = refl
+frame-lengths : (frameFault (says 7 3) 0 ≡ 2) × (frameFault (says 8 4) 0 ≡ 0) × (frameFault (says 120 116) 0 ≡ 0) × (frameFault (says 121 117) 0 ≡ 2)
+unfolding frameFault number4
+frame-lengths = (refl, refl, refl, refl)
 
+breaks-off : (frameFault (replicate 3 0) 0 ≡ 1) × (frameFault (says 8 3) 0 ≡ 1) × (frameFault (says 7 0) 0 ≡ 2) × (frameFault (says 121 0) 0 ≡ 2)
+unfolding frameFault number4
+breaks-off = (refl, refl, refl, refl)
+
+-- a root of 16 bytes and of 20
+root-length : (lengthFault (rowOf 0x0013) (replicate 16 0) ≡ 0) × (lengthFault (rowOf 0x0013) (replicate 20 0) ≡ 2)
+unfolding rows firstRow rowOf number2 firstCount fieldOf shapeOf piecesBy outside countFault sizeFault lengthFault
+root-length = (refl, refl)
+
+-- a count or a depth outside its range gives 2: a polynomial's 1 to 16, a rational's 1 to 12 each, a fraction's 1 to 12
+polynomial-counts : (countFault (rowOf 0x0010) 0 0 ≡ 2) × (countFault (rowOf 0x0010) 1 0 ≡ 0) × (countFault (rowOf 0x0010) 16 0 ≡ 0) × (countFault (rowOf 0x0010) 17 0 ≡ 2)
+unfolding rows firstRow rowOf outside countFault
+polynomial-counts = (refl, refl, refl, refl)
+
+numerator-counts : (countFault (rowOf 0x0011) 0 1 ≡ 2) × (countFault (rowOf 0x0011) 1 1 ≡ 0) × (countFault (rowOf 0x0011) 12 1 ≡ 0) × (countFault (rowOf 0x0011) 13 1 ≡ 2)
+unfolding rows firstRow rowOf outside countFault
+numerator-counts = (refl, refl, refl, refl)
+
+divisor-counts : (countFault (rowOf 0x0011) 1 0 ≡ 2) × (countFault (rowOf 0x0011) 1 12 ≡ 0) × (countFault (rowOf 0x0011) 1 13 ≡ 2)
+unfolding rows firstRow rowOf outside countFault
+divisor-counts = (refl, refl, refl)
+
+depths : (countFault (rowOf 0x0012) 0 0 ≡ 2) × (countFault (rowOf 0x0012) 1 0 ≡ 0) × (countFault (rowOf 0x0012) 12 0 ≡ 0) × (countFault (rowOf 0x0012) 13 0 ≡ 2)
+unfolding rows firstRow rowOf outside countFault
+depths = (refl, refl, refl, refl)
+
+-- a start's count, 1 to 64
 none-or-too-many : (startFault (rowOf 0x0001) 0 ≡ 4) × (startFault (rowOf 0x0001) 1 ≡ 0) × (startFault (rowOf 0x0001) 64 ≡ 0) × (startFault (rowOf 0x0001) 65 ≡ 4)
 unfolding rows firstRow rowOf outside startFault
 none-or-too-many = (refl, refl, refl, refl)
 
-no-word : (wordFault (negsuc 2147483647) ≡ 6) × (wordFault (negsuc 2147483646) ≡ 0)
-no-word = (refl, refl)
+-- a formula too many, which comes before a number that is too low; the number before, and the same again
+too-many-first : (orderFault 1 1 5 4 ≡ 4) × (orderFault 0 1 5 4 ≡ 5) × (orderFault 0 1 5 5 ≡ 0)
+unfolding orderFault
+too-many-first = (refl, refl, refl)
 
-lo-above-hi : (intervalFault (pos 1) (pos 0) ≡ 6) × (intervalFault (pos 1) (pos 1) ≡ 0)
+-- an end too early, in its place, and with another count
+ends : (endFault 0 1 1 ≡ 4) × (endFault 1 1 1 ≡ 0) × (endFault 1 1 2 ≡ 4)
+unfolding endFault
+ends = (refl, refl, refl)
+
+-- the largest word, the least, and the one pattern that is no word, alone and behind a word
+no-word : (wordFault (pos 2147483647) ≡ 0) × (wordFault (negsuc 2147483646) ≡ 0) × (wordFault (negsuc 2147483647) ≡ 6) × (wordsFault (pos 0 ∷ negsuc 2147483647 ∷ []) ≡ 6)
+unfolding wordsFault
+no-word = (refl, refl, refl, refl)
+
+lo-above-hi : (intervalFault (pos 1) (pos 0) ≡ 6) × (intervalFault (pos 1) (pos 1) ≡ 0) × (intervalFault (negsuc 2147483647) (pos 0) ≡ 6)
 unfolding intervalFault
-lo-above-hi = (refl, refl)
+lo-above-hi = (refl, refl, refl)
 
+-- a root alone is not below 0; a mode of 2, and of 3, which gives 6
+root-from-zero : (kindFault Root (negsuc 0) ≡ 6) × (kindFault Root (pos 0) ≡ 0) × (kindFault Polynomial (negsuc 0) ≡ 0)
+root-from-zero = (refl, refl, refl)
+
+modes : (ownFault (rowOf 0x0012) (shape Fraction 1 0 2) (pos 0) (pos 0) ≡ 0) × (ownFault (rowOf 0x0012) (shape Fraction 1 0 3) (pos 0) (pos 0) ≡ 6)
+unfolding rows firstRow rowOf outside intervalFault ownFault
+modes = (refl, refl)
+
+-- 16 to 28 places
 places : (scaleFault 15 ≡ 6) × (scaleFault 16 ≡ 0) × (scaleFault 28 ≡ 0) × (scaleFault 29 ≡ 6)
 unfolding scaleFault
 places = (refl, refl, refl, refl)

@@ -1,7 +1,12 @@
 -- Refusals 2 to 8 of a whole formula record, in the paper's order; 0 where there is none. The binary places are s.
 use Prim.Native.Nat.{ℕ}
-use mathlib.Core.List.{List}
+use mathlib.Core.Path.{_≡_, refl}
+use mathlib.Core.List.{List, [], _∷_, _++_}
 use lib.IntN.{ℤ}
+use Rattle.word.specs.Rounded.{roundedUp}
+use Rattle.stored.specs.Numbers.{number2, number4, bytes2, bytes4}
+use Rattle.stored.specs.Words.{words}
+use Rattle.polynomial.specs.Polynomial.{bound, boundOf}
 use Rattle.admission.specs.Admission.{admissionNumber}
 use Rattle.admission.specs.declared.Admission.{Admission}
 use Rattle.admission.specs.declared.Admission.the-variants.{Admitted, RangeLeft, DivisorZero}
@@ -10,9 +15,10 @@ use Rattle.formula.specs.Formula.{admissionOf}
 use Rattle.table.specs.declared.Class.{Class}
 use Rattle.table.specs.declared.Class.the-variants.{StartRecord, FormulaRecord, EndRecord, Unknown}
 use Rattle.table.specs.declared.Row.{Row}
-use Rattle.layout.specs.Fields.{formulaNumber, loOf, hiOf, shapeOf, wordsOf}
+use Rattle.table.specs.Table.{rows, firstRow, rowOf, piecesBy}
+use Rattle.layout.specs.Fields.{formulaNumber, loOf, hiOf, firstCount, fieldOf, shapeOf, wordsOf}
 use Rattle.faults.specs.Guard.{orElse}
-use Rattle.faults.specs.Faults.{lengthFault, orderFault, wordsFault, ownFault}
+use Rattle.faults.specs.Faults.{outside, countFault, sizeFault, lengthFault, orderFault, wordsFault, intervalFault, ownFault}
 
 -- ---- 7 or 8, as Admission meets them
 abbrev pub admissionFault : ℕ → Shape → ℤ → ℤ → List ℤ → ℕ
@@ -54,3 +60,37 @@ onlyFormula StartRecord = 3
 onlyFormula FormulaRecord = 0
 onlyFormula EndRecord = 3
 onlyFormula Unknown = 3
+
+-- ---- worked examples: of two refusals that meet at one record, the one that the paper has first. A record with its length, code, number, lo, hi and
+-- the rest, all by their bit patterns
+abbrev recorded : ℕ → ℕ → ℕ → ℕ → ℕ → List ℕ → List ℕ
+recorded n code number lo hi rest = bytes4 n ++ (bytes2 code ++ (bytes2 number ++ (bytes4 lo ++ (bytes4 hi ++ rest))))
+
+-- a polynomial, number 5, of one coefficient, and one with a byte too many
+abbrev constant : ℕ → ℕ → List ℕ
+constant lo hi = recorded 20 0x0010 5 lo hi (bytes4 7)
+
+abbrev overlong : List ℕ
+overlong = recorded 21 0x0010 5 0 1 (bytes4 7 ++ (0 ∷ []))
+
+-- 2 before 4; 4 before 5; 5 before 6
+length-first : (formulaFault 24 (rowOf 0x0010) overlong 1 1 6 ≡ 2) × (formulaFault 24 (rowOf 0x0010) (constant 0 1) 1 1 6 ≡ 4)
+unfolding bytes2 bytes4 number2 number4 words rows firstRow rowOf firstCount fieldOf shapeOf piecesBy outside countFault sizeFault lengthFault orderFault intervalFault ownFault wordsFault boundOf roundedUp valueFault formulaFault
+length-first = (refl, refl)
+
+number-first : (formulaFault 24 (rowOf 0x0010) (constant 1 0) 0 1 6 ≡ 5) × (formulaFault 24 (rowOf 0x0010) (constant 1 0) 0 1 5 ≡ 6) × (formulaFault 24 (rowOf 0x0010) (constant 0 1) 0 1 5 ≡ 0)
+unfolding bytes2 bytes4 number2 number4 words rows firstRow rowOf firstCount fieldOf shapeOf piecesBy outside countFault sizeFault lengthFault orderFault intervalFault ownFault wordsFault boundOf roundedUp valueFault formulaFault
+number-first = (refl, refl, refl)
+
+-- M + M·x leaves the range at one (7); 6 comes before, for lo above hi, and for a coefficient that is no word
+abbrev steep : ℕ → ℕ → ℕ → List ℕ
+steep lo hi c = recorded 24 0x0010 5 lo hi (bytes4 2147483647 ++ bytes4 c)
+
+values-first : (formulaFault 24 (rowOf 0x0010) (steep 0 16777216 2147483647) 0 1 5 ≡ 7) × (formulaFault 24 (rowOf 0x0010) (steep 16777216 0 2147483647) 0 1 5 ≡ 6) × (formulaFault 24 (rowOf 0x0010) (steep 0 16777216 2147483648) 0 1 5 ≡ 6)
+unfolding bytes2 bytes4 number2 number4 words rows firstRow rowOf firstCount fieldOf shapeOf piecesBy outside countFault sizeFault lengthFault orderFault intervalFault ownFault wordsFault boundOf roundedUp valueFault formulaFault
+values-first = (refl, refl, refl)
+
+-- M over 0 (8), and M + M·x over 0: the numerator's bounds come first (7)
+range-first : (formulaFault 24 (rowOf 0x0011) (recorded 28 0x0011 5 0 16777216 (bytes2 1 ++ (bytes2 1 ++ (bytes4 2147483647 ++ bytes4 0)))) 0 1 5 ≡ 8) × (formulaFault 24 (rowOf 0x0011) (recorded 32 0x0011 5 0 16777216 (bytes2 2 ++ (bytes2 1 ++ (bytes4 2147483647 ++ (bytes4 2147483647 ++ bytes4 0))))) 0 1 5 ≡ 7)
+unfolding bytes2 bytes4 number2 number4 words rows firstRow rowOf firstCount fieldOf shapeOf piecesBy outside countFault sizeFault lengthFault orderFault intervalFault ownFault wordsFault bound boundOf roundedUp valueFault formulaFault
+range-first = (refl, refl)
