@@ -1,14 +1,14 @@
 -- A formula: its shape (kind, counts, mode), its interval lo..hi and its stored words. The binary places are s.
-use mathlib.Core.Path.{_≡_}
+use mathlib.Core.Path.{_≡_, refl}
 use mathlib.Core.Bool.{cond}
 use mathlib.Core.List.{List, [], _∷_}
 use Prim.Native.Nat.{ℕ, _+_, _≤_}
 use lib.Dec.{ltb}
-use lib.IntN.{ℤ, pos, natAbs}
+use lib.IntN.{ℤ, pos, negsuc, natAbs}
 use lib.Signed.{_≤ℤ_}
 use lib.ListN.{length, take, drop}
 use Rattle.word.specs.Words.{Word, Scale}
-use Rattle.word.specs.Root.{rootWord}
+use Rattle.word.specs.Root.{rootIn, rootWord}
 use Rattle.word.specs.Lists.{Words}
 use Rattle.stored.specs.Words.{words, Stretch}
 use Rattle.admission.specs.declared.Admission.{Admission}
@@ -118,3 +118,11 @@ pub record Answerable (s : ℕ) (h : Shape) (ws : List ℤ) (x : ℤ) : Type 0 w
   pub admitted : admissionOf s h lo hi ws ≡ Admitted
   pub above : lo ≤ℤ x
   pub below : x ≤ℤ hi
+
+-- ---- worked examples: A of an interval on both sides of 0; a root's number on the way is its answer, 2 of 4, and it has no divisor
+both-sides : (mostOf (negsuc 2) (pos 2) ≡ 3) × (mostOf (negsuc 1) (pos 3) ≡ 3) × (mostOf (pos 1) (pos 2) ≡ 2)
+both-sides = (refl, refl, refl)
+
+root-numbers : (numbersBy Root 24 0 0 0 [] (pos 67108864) ≡ pos 33554432 ∷ []) × (divisorsBy Root 24 0 0 0 [] (pos 67108864) ≡ [])
+unfolding rootIn
+root-numbers = (refl, refl)

@@ -78,3 +78,17 @@ mode-0 = refl
 mode-1 : fractionOf 24 1 tangent 2 (pos 8388608) ≡ pos 4575604
 unfolding outward rounded
 mode-1 = refl
+
+-- the tangent's numbers on the way: the square; then, from the inside, product, quotient and sum of each term; and what is divided by.
+-- In mode 0 there is no square
+mode-2-numbers : fractionNumbers 24 2 tangent 2 (pos 8388608) ≡ pos 4194304 ∷ negsuc 4194303 ∷ negsuc 1398100 ∷ pos 15379115 ∷ pos 8388608 ∷ pos 9151209 ∷ pos 9151209 ∷ []
+unfolding outwardNumbers rounded
+mode-2-numbers = refl
+
+mode-2-divisors : fractionDivisors 24 2 tangent 2 (pos 8388608) ≡ pos 50331648 ∷ pos 15379115 ∷ []
+unfolding outwardDivisors rounded
+mode-2-divisors = refl
+
+mode-0-numbers : fractionNumbers 24 0 tangent 2 (pos 8388608) ≡ negsuc 8388607 ∷ negsuc 2796202 ∷ pos 13981013 ∷ pos 8388608 ∷ pos 10066330 ∷ pos 10066330 ∷ []
+unfolding outwardNumbers rounded
+mode-0-numbers = refl

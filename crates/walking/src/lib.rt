@@ -34,7 +34,12 @@ fn refused(place: usize, number: u8) -> Walked
 fn room_for(from: usize) -> u16
     ensures { λ r. ⌜ r ≡ roomFor from ⌝ }
 {
-    if from == 0 { 0 } else { 64 }
+    if from == 0 {
+        return 0;
+    }
+    let start = table::row_of(table::START);
+    let count = start.count;
+    count.most
 }
 
 fn begin(from: usize, asked: u32) -> Walk

@@ -1,21 +1,20 @@
 -- `walking::room_for` meets its contract, at 0 and above it.
-use Rattle.whole.proofs.Basics.{_≡_, refl, sym, ap, ℕ, suc, zero}
+use Rattle.whole.proofs.Basics.{_≡_, _∙_, refl, sym, ap, ℕ, suc, zero, needs}
+use Rattle.table.specs.declared.Row.{Row}
+use Rattle.table.specs.Table.{rowOf}
 use Rattle.walking.specs.Walking.{roomFor}
 use Rattle.walking.proofs.room_for.Statement.{statement}
 use Rattle.walking.proofs.room_for.Tie as tie
 
-none : (n : ℕ) → n ≡ 0 → 0 ≡ roomFor n
-none n e = sym (ap roomFor e)
-
-some : (n : ℕ) → ¬ (n ≡ 0) → 64 ≡ roomFor n
+some : (n : ℕ) → ¬ (n ≡ 0) → rowOf 0x0001 .count .most ≡ roomFor n
 some zero h = absurd (h refl)
 some (suc n) h = refl
 
 returns : tie.Need-returns
-returns c = none _ (c .if1 .taken)
+returns c = sym (ap roomFor (c .if1 .taken))
 
 returns-2 : tie.Need-returns-2
-returns-2 c = some _ (c .if1 .left)
+returns-2 c = ap (λ (r : Row). r .count .most) (c .before .row-of .ensures) ∙ some _ (c .before .before .if1 .left)
 
 pub room-for-spec : {M : Type 1} → statement M
-room-for-spec = tie.close (tie.spec returns returns-2)
+room-for-spec = tie.close (tie.spec returns (λ c κs. search needs) returns-2)
