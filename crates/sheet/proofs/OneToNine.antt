@@ -1,25 +1,20 @@
 -- Promise: any bytes are accepted, or refused by one of a sheet's refusals; a number asked for is refused by these, or by 11 at place 0.
--- Each test of a record gives 0 or one of a record's refusals, and so do tests one behind the other: that is shown once, by small laws of `cond` and `orElse`.
-use Rattle.whole.proofs.Basics.{_≡_, refl, ap, subst, Bool, true, false, cond, not, _⊎_, inl, inr, List, [], _∷_, ℕ, suc, zero, _-_, T, eqb, ltb, length, ℤ, pos, natAbs, ltZ, eqb-true, eqb-false, eq-eqb}
+-- Each check of a record is made of tests and of numbers from the list: two laws say that such a number is 0 or a refusal of the list, and `search` goes through the checks by them.
+use Rattle.whole.proofs.Basics.{_≡_, refl, ap, subst, Bool, true, false, cond, _⊎_, inl, inr, List, [], _∷_, ℕ, suc, zero, _-_, T, eqb, ltb, length, ℤ, eqb-true, eqb-false, eq-eqb}
 use mathlib.Core.Bool.{_||_}
-use Rattle.stored.specs.Numbers.{number4}
 use Rattle.admission.specs.declared.Admission.{Admission}
 use Rattle.admission.specs.declared.Admission.the-variants.{Admitted, RangeLeft, DivisorZero}
 use Rattle.admission.specs.Admission.{admissionNumber}
 use Rattle.formula.specs.declared.Kind.{Kind}
 use Rattle.formula.specs.declared.Kind.the-variants.{Polynomial, Rational, Fraction, Root, NoFormula}
-use Rattle.formula.specs.declared.Shape.{Shape}
-use Rattle.formula.specs.Formula.{admissionOf}
 use Rattle.table.specs.declared.Class.{Class}
 use Rattle.table.specs.declared.Class.the-variants.{StartRecord, FormulaRecord, EndRecord, Unknown}
-use Rattle.table.specs.declared.Field.{Field}
 use Rattle.table.specs.declared.Row.{Row}
-use Rattle.table.specs.Table.{lengthBy}
-use Rattle.layout.specs.Fields.{rowFor, countOf, formulaNumber, loOf, hiOf, shapeOf, wordsOf}
-use Rattle.faults.specs.Guard.{guard, orElse, refusal}
+use Rattle.layout.specs.Fields.{rowFor}
+use Rattle.faults.specs.Guard.{guard, refusal}
 use Rattle.faults.specs.Faults.{frameFault, outside, countFault, sizeFault, lengthFault, startFault, scaleFault, orderFault, endFault, wordFault, wordsFault, intervalFault, kindFault, ownFault}
 use Rattle.faults.specs.Refusals.{OneOf, recordRefusals, sheetRefusals}
-use Rattle.records.specs.Records.{valueFault, innerFault}
+use Rattle.records.specs.Records.{valueFault}
 use Rattle.walking.specs.Walking.{placeFault, classFault, recordFault, recordHere, faultAt, begin, ending, onward, runDone, walkFrom, walkOf}
 use Rattle.walking.specs.declared.Walk.{Walk}
 use Rattle.walking.specs.declared.Walked.{Walked}
@@ -42,132 +37,63 @@ one-of (k ∷ ks) n t = at (one-of ks n) (eqb n k) refl t
     at ih true e h = inl (eqb-true n k e)
     at ih false e h = inr (ih h)
 
-not-zero : (l : List ℕ) (n : ℕ) → T (not (among l 0)) → OneOf l n → n ≡ 0 → ⊥
-not-zero l n t h z = clash (among l 0) t (found l (subst (OneOf l) z h))
+is-among : (l : List ℕ) (n : ℕ) → OneOf l n → T (among l n)
+is-among [] n h = h
+is-among (k ∷ ks) n (inl e) = rw (eq-eqb n k e) tt
+is-among (k ∷ ks) n (inr h) = later (eqb n k) (is-among ks n h)
   where
-    clash : (b : Bool) → T (not b) → T b → ⊥
-    clash true f g = f
-    clash false f g = g
-
-    found : (l : List ℕ) → OneOf l 0 → T (among l 0)
-    found [] h = h
-    found (k ∷ ks) (inl e) = rw (eq-eqb 0 k e) tt
-    found (k ∷ ks) (inr h) = later (eqb 0 k) (found ks h)
-      where
-        later : (b : Bool) → T (among ks 0) → T (b || among ks 0)
-        later true g = tt
-        later false g = g
+    later : (b : Bool) → T (among ks n) → T (b || among ks n)
+    later true g = tt
+    later false g = g
 
 -- ---- a fault is 0, or one of a record's refusals
 
-abbrev faults : List ℕ
-faults = 0 ∷ recordRefusals
+record Fault (n : ℕ) : Type 0 where
+  number : OneOf (0 ∷ recordRefusals) n
 
-abbrev Fault : ℕ → Type 0
-Fault n = OneOf faults n
-
-fault : (n : ℕ) → T (among faults n) → Fault n
-fault n t = one-of faults n t
-
-none : Fault 0
-none = fault 0 tt
+-- a number of the list, and a test of two: of these every check of a record is made
+listed : (n : ℕ) → T (among (0 ∷ recordRefusals) n) → Fault n
+listed n t = record { number = one-of (0 ∷ recordRefusals) n t }
 
 test : (t : Bool) {a b : ℕ} → Fault a → Fault b → Fault (cond t a b)
 test true h k = h
 test false h k = k
 
-first : (a b : ℕ) → Fault a → Fault b → Fault (orElse a b)
-first a b h k = test (eqb a 0) k h
-
--- ---- each test of a record
-
-frame : (bytes : List ℕ) (at : ℕ) → Fault (frameFault bytes at)
-unfolding frameFault
-frame bytes at =
-    test (ltb (length bytes - at) 4) (fault 1 tt)
-    (test (ltb (number4 bytes at) 8) (fault 2 tt)
-    (test (ltb 120 (number4 bytes at)) (fault 2 tt)
-    (test (ltb (length bytes - at) (number4 bytes at)) (fault 1 tt) none)))
+-- ---- the checks of a record, where they go by cases
 
 place : (from : ℕ) (k : Class) (at : ℕ) → Fault (placeFault from k at)
-place from StartRecord at = test (eqb at 0) none (fault 3 tt)
-place from FormulaRecord at = test (eqb at 0) (fault 3 tt) none
-place from EndRecord at = test (eqb at 0) (fault 3 tt) (test (eqb from 0) none (fault 3 tt))
-place from Unknown at = fault 3 tt
-
-out : (f : Field) (n k : ℕ) → Fault k → Fault (outside f n k)
-unfolding outside
-out f n k h = test (ltb n (f .least)) h (test (ltb (f .most) n) h none)
-
-size : (r : Row) (b : List ℕ) → Fault (lengthFault r b)
-unfolding lengthFault sizeFault countFault
-size r b =
-    let p = shapeOf r b .p in
-    let q = shapeOf r b .q in
-    test (ltb (length b) (r .head)) (fault 2 tt)
-    (first _ _ (first _ _ (out (r .p) p 2 (fault 2 tt)) (out (r .q) q 2 (fault 2 tt))) (test (eqb (lengthBy r p q) (length b)) none (fault 2 tt)))
-
-start : (r : Row) (c : ℕ) → Fault (startFault r c)
-unfolding startFault
-start r c = out (r .count) c 4 (fault 4 tt)
-
-scale : (s : ℕ) → Fault (scaleFault s)
-unfolding scaleFault
-scale s = test (ltb s 16) (fault 6 tt) (test (ltb 28 s) (fault 6 tt) none)
-
-order : (seen count next n : ℕ) → Fault (orderFault seen count next n)
-unfolding orderFault
-order seen count next n = test (eqb seen count) (fault 4 tt) (test (ltb n next) (fault 5 tt) none)
-
-finish : (seen count c : ℕ) → Fault (endFault seen count c)
-unfolding endFault
-finish seen count c = test (eqb seen count) (test (eqb c count) none (fault 4 tt)) (fault 4 tt)
-
-word : (z : ℤ) → Fault (wordFault z)
-word z = test (ltb 2147483647 (natAbs z)) (fault 6 tt) none
+place from StartRecord at = search (test, listed)
+place from FormulaRecord at = search (test, listed)
+place from EndRecord at = search (test, listed)
+place from Unknown at = search listed
 
 words : (l : List ℤ) → Fault (wordsFault l)
 unfolding wordsFault
-words [] = none
-words (z ∷ l) = first (wordFault z) (wordsFault l) (word z) (words l)
+words [] = search listed
+words (z ∷ l) = test (eqb (wordFault z) 0) (words l) (search (test, listed))
 
 kind : (k : Kind) (lo : ℤ) → Fault (kindFault k lo)
-kind Polynomial lo = none
-kind Rational lo = none
-kind Fraction lo = none
-kind Root lo = test (ltZ lo (pos 0)) (fault 6 tt) none
-kind NoFormula lo = none
-
-own : (r : Row) (h : Shape) (lo hi : ℤ) → Fault (ownFault r h lo hi)
-unfolding ownFault intervalFault
-own r h lo hi =
-    first _ _ (first _ _ (word lo) (first _ _ (word hi) (test (ltZ hi lo) (fault 6 tt) none)))
-    (first _ _ (out (r .mode) (h .mode) 6 (fault 6 tt)) (kind (r .kind) lo))
+kind Polynomial lo = search listed
+kind Rational lo = search listed
+kind Fraction lo = search listed
+kind Root lo = search (test, listed)
+kind NoFormula lo = search listed
 
 admission : (a : Admission) → Fault (admissionNumber a)
-admission Admitted = none
-admission RangeLeft = fault 7 tt
-admission DivisorZero = fault 8 tt
-
-inner : (s : ℕ) (r : Row) (b : List ℕ) → Fault (innerFault s r b)
-unfolding valueFault
-inner s r b =
-    let h = shapeOf r b in
-    let ws = wordsOf r b in
-    first _ _ (own r h (loOf b) (hiOf b)) (first _ _ (words ws) (admission (admissionOf s h (loOf b) (hiOf b) ws)))
+admission Admitted = search listed
+admission RangeLeft = search listed
+admission DivisorZero = search listed
 
 content : (s : ℕ) (k : Class) (r : Row) (b : List ℕ) (w : Walk) → Fault (classFault s k r b w)
-content s StartRecord r b w = first _ _ (start r (countOf b)) (scale s)
-content s FormulaRecord r b w = first _ _ (order (w .seen) (w .count) (w .next) (formulaNumber b)) (inner s r b)
-content s EndRecord r b w = finish (w .seen) (w .count) (countOf b)
-content s Unknown r b w = none
+unfolding startFault scaleFault outside orderFault valueFault ownFault intervalFault endFault
+content s StartRecord r b w = search (test, listed) depth 9
+content s FormulaRecord r b w = search (test, listed, words, kind, admission) depth 20
+content s EndRecord r b w = search (test, listed)
+content s Unknown r b w = search listed
 
 whole : (s : ℕ) (bytes : List ℕ) (from : ℕ) (w : Walk) → Fault (faultAt s bytes from w)
-unfolding faultAt recordFault
-whole s bytes from w =
-    let b = recordHere bytes from w in
-    let r = rowFor b in
-    first _ _ (frame bytes (w .at - from)) (first _ _ (place from (r .class) (w .at)) (first _ _ (size r b) (content s (r .class) r b w)))
+unfolding faultAt recordFault frameFault lengthFault sizeFault countFault outside
+whole s bytes from w = search (test, listed, place, content) depth 20
 
 -- ---- so no walk is refused by another number
 
@@ -176,9 +102,9 @@ Numbered (Whole c k) = Unit
 Numbered (Broken r) = OneOf sheetRefusals (r .number)
 
 guarded : (fault at : ℕ) (x : Walked) → Fault fault → Numbered x → Numbered (guard fault (λ n. Broken (refusal at n)) x)
-guarded fault at x h k = go (eqb fault 0) refl h
+guarded fault at x h k = go (eqb fault 0) refl (h .number)
   where
-    go : (b : Bool) → eqb fault 0 ≡ b → Fault fault → Numbered (cond b x (Broken (refusal at fault)))
+    go : (b : Bool) → eqb fault 0 ≡ b → OneOf (0 ∷ recordRefusals) fault → Numbered (cond b x (Broken (refusal at fault)))
     go true e h = k
     go false e (inl z) = absurd (eqb-false fault 0 e z)
     go false e (inr h) = inr h
@@ -231,7 +157,7 @@ accepted s bytes e = at (walkOf s bytes 0 noNumber) refl (numbered s bytes 0 noN
   where
     at : (r : Walked) → walkOf s bytes 0 noNumber ≡ r → Numbered r → countNumber (countAnswer r) ≡ 0 → (c : ℕ) × (k : ℕ) × (walkOf s bytes 0 noNumber ≡ Whole c k)
     at (Whole c k) q h p = (c, k, q)
-    at (Broken r) q h p = absurd (not-zero sheetRefusals (r .number) tt h p)
+    at (Broken r) q h p = absurd (is-among sheetRefusals 0 (subst (OneOf sheetRefusals) p h))
 
 -- ---- the place of a formula, and the formula
 
