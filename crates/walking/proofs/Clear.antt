@@ -1,5 +1,5 @@
 -- What it says that there is no fault at the walk's place: the chain taken apart, and each class by itself.
-use Rattle.whole.proofs.Basics.{_≡_, refl, sym, subst, Bool, true, false, cond, _⊎_, inl, inr, List, ℕ, suc, _-_, _≤_, arith, eqb, ltb, length, eqb-true, eqb-false, ltb-false, eq-eqb}
+use Rattle.whole.proofs.Basics.{_≡_, refl, sym, subst, Bool, true, false, cond, List, ℕ, suc, _+_, _-_, _≤_, arith, eqb, ltb, length, eqb-true, eqb-false, ltb-false, eq-eqb}
 use Rattle.word.specs.Words.{Scale}
 use Rattle.table.specs.declared.Class.{Class}
 use Rattle.table.specs.declared.Class.the-variants.{StartRecord, FormulaRecord, EndRecord, Unknown}
@@ -9,7 +9,7 @@ use Rattle.faults.specs.Faults.{frameFault, lengthFault, startFault, orderFault
 use Rattle.faults.proofs.ScaleLaws.{good-scale}
 use Rattle.faults.proofs.Chain.{halts, goes, passed, met, neither}
 use Rattle.records.specs.Records.{innerFault}
-use Rattle.walking.specs.Walking.{placeFault, classFault, recordFault, recordHere, faultAt, onward, runDone, walkFrom}
+use Rattle.walking.specs.Walking.{placeFault, classFault, recordFault, recordHere, faultAt, afterStart, afterFormula, ending, onward, runDone, walkFrom}
 use Rattle.walking.specs.declared.Walk.{Walk}
 use Rattle.walking.specs.declared.Walked.{Walked}
 use Rattle.walking.specs.declared.Walked.the-variants.{Whole, Broken}
@@ -79,8 +79,11 @@ both-counts seen count c e =
 
 -- ---- one record of the walk
 module _ (s : ℕ) (bytes : List ℕ) (from : ℕ) (w : Walk) (k : ℕ) where
+  abbrev here : List ℕ
+  here = recordHere bytes from w
+
   abbrev rest : Walked
-  rest = onward (walkFrom k s bytes from) (rowFor (recordHere bytes from w) .class) (recordHere bytes from w) w (length bytes)
+  rest = onward (walkFrom k s bytes from) (rowFor here .class) here w (length bytes)
 
   pub walk-done : runDone bytes from w ≡ true → walkFrom (suc k) s bytes from w ≡ Whole (w .seen) (w .found)
   unfolding walkFrom
@@ -94,14 +97,23 @@ module _ (s : ℕ) (bytes : List ℕ) (from : ℕ) (w : Walk) (k : ℕ) where
   unfolding walkFrom
   walk-on d e = rw d (sym (goes (λ n. Broken (refusal (w .at) n)) refl e refl))
 
-  -- and back: a walk that ends well
-  pub well : (c f : ℕ) → walkFrom (suc k) s bytes from w ≡ Whole c f → ((runDone bytes from w ≡ true) × (w .seen ≡ c) × (w .found ≡ f)) ⊎ ((runDone bytes from w ≡ false) × (faultAt s bytes from w ≡ 0) × (rest ≡ Whole c f))
+  -- and back: a walk that ends well is done here, or goes on by the class of a record without fault
+  pub well : {A : Type 0} (c f : ℕ) → walkFrom (suc k) s bytes from w ≡ Whole c f
+      → (runDone bytes from w ≡ true → w .seen ≡ c → A)
+      → (Clear s bytes from w here → rowFor here .class ≡ StartRecord → walkFrom k s bytes from (afterStart here w) ≡ Whole c f → A)
+      → (Clear s bytes from w here → rowFor here .class ≡ FormulaRecord → walkFrom k s bytes from (afterFormula here w) ≡ Whole c f → A)
+      → (Clear s bytes from w here → rowFor here .class ≡ EndRecord → ending w (w .at + length here) (length bytes) ≡ Whole c f → A) → A
   unfolding walkFrom
-  well c f e = at (runDone bytes from w) refl (eqb (faultAt s bytes from w) 0) refl e
+  well {A = A} c f e done start formula end = at (runDone bytes from w) refl (eqb (faultAt s bytes from w) 0) refl e
     where
+      on : Clear s bytes from w here → (j : Class) → rowFor here .class ≡ j → onward (walkFrom k s bytes from) j here w (length bytes) ≡ Whole c f → A
+      on x StartRecord q p = start x q p
+      on x FormulaRecord q p = formula x q p
+      on x EndRecord q p = end x q p
+      on x Unknown q p = absurd (known x q)
+
       at : (d : Bool) → runDone bytes from w ≡ d → (t : Bool) → eqb (faultAt s bytes from w) 0 ≡ t
-          → cond d (Whole (w .seen) (w .found)) (cond t rest (Broken (refusal (w .at) (faultAt s bytes from w)))) ≡ Whole c f
-          → ((runDone bytes from w ≡ true) × (w .seen ≡ c) × (w .found ≡ f)) ⊎ ((runDone bytes from w ≡ false) × (faultAt s bytes from w ≡ 0) × (rest ≡ Whole c f))
-      at true d t q p = inl (d, cc, cc)
-      at false d true q p = inr (d, eqb-true _ _ q, p)
+          → cond d (Whole (w .seen) (w .found)) (cond t rest (Broken (refusal (w .at) (faultAt s bytes from w)))) ≡ Whole c f → A
+      at true d t q p = done d cc
+      at false d true q p = on (clear s bytes from w (eqb-true _ _ q)) (rowFor here .class) refl p
       at false d false q p = absurd (let x : _≡_ {A = ℕ} 0 1 = cc in omega arith)

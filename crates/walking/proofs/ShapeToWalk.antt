@@ -1,7 +1,6 @@
 -- What the walk makes of the bytes of a sheet, with anything behind them, and of a run: a start, then past each formula, then the end.
 use Rattle.whole.proofs.Basics.{_≡_, _∙_, refl, sym, ap, cond, List, [], _++_, append-assoc, append-nil, ℕ, suc, _+_, _-_, _≤_, arith, ltb, length, length-append, eq-eqb, ne-eqb, le-ltb}
 use Rattle.word.specs.Words.{Scale}
-use Rattle.table.specs.declared.Class.{Class}
 use Rattle.table.specs.declared.Class.the-variants.{StartRecord, EndRecord}
 use Rattle.table.proofs.Rule.{ruled}
 use Rattle.layout.specs.Fields.{codeOf, rowFor, countOf}
@@ -9,12 +8,12 @@ use Rattle.faults.specs.Guard.{refusal}
 use Rattle.faults.specs.Faults.{outside, startFault, endFault}
 use Rattle.faults.proofs.ScaleLaws.{no-scale-fault}
 use Rattle.records.specs.Sheets.{RecordOf, inLine, SheetOf, RunOf}
-use Rattle.walking.specs.Walking.{begin, afterStart, ending, onward, walkFrom, walkOf}
+use Rattle.walking.specs.Walking.{begin, afterStart, ending, walkFrom, walkOf}
 use Rattle.walking.specs.declared.Walk.{Walk}
 use Rattle.walking.specs.declared.Walked.{Walked}
 use Rattle.walking.specs.declared.Walked.the-variants.{Whole, Broken}
-use Rattle.walking.proofs.Clear.{walk-done, walk-on}
-use Rattle.walking.proofs.Formulas.{placeIn, afterAll, behind, no-fault-there, past-all}
+use Rattle.walking.proofs.Clear.{walk-done}
+use Rattle.walking.proofs.Formulas.{placeIn, afterAll, behind, goes-on, past-all}
 
 -- what the end record gives, with n bytes in all
 abbrev pub closing : ℕ → ℕ → ℕ → ℕ → Walked
@@ -29,21 +28,14 @@ module _ (s : ℕ) (bytes : List ℕ) where
   past-start : (b after : List ℕ) (asked k : ℕ) → bytes ≡ b ++ after → RecordOf StartRecord b → 1 ≤ countOf b → countOf b ≤ 64 → Scale s
       → walkFrom (suc k) s bytes 0 (begin 0 asked) ≡ walkFrom k s bytes 0 (afterStart b (begin 0 asked))
   past-start b after asked k q r l m h =
-      let w = begin 0 asked in
-      let c = no-fault-there s bytes 0 [] b after StartRecord r w q refl refl (rw (eq-eqb _ _ (start-fine b (countOf b) (r .class) l m)) (no-scale-fault s h)) in
-      walk-on s bytes 0 w k refl (c .0)
-      ∙ ap (λ (x : List ℕ). onward (walkFrom k s bytes 0) (rowFor x .class) x w (length bytes)) (c .1)
-      ∙ ap (λ (j : Class). onward (walkFrom k s bytes 0) j b w (length bytes)) (r .class)
+      goes-on s bytes 0 [] b after StartRecord (begin 0 asked) k r q refl refl (rw (eq-eqb _ _ (start-fine b (countOf b) (r .class) l m)) (no-scale-fault s h))
 
   -- at the end
   at-end : (before b after : List ℕ) (w : Walk) (k : ℕ) → bytes ≡ before ++ (b ++ after) → w .at ≡ 0 + length before → (w .at ≡ 0 → ⊥) → RecordOf EndRecord b → w .seen ≡ w .count → countOf b ≡ w .count
       → walkFrom (suc k) s bytes 0 w ≡ closing (w .count) (w .found) (w .at + length b) (length bytes)
   unfolding endFault ending
   at-end before b after w k q a z r m n =
-      let c = no-fault-there s bytes 0 before b after EndRecord r w q a (simp (ne-eqb (w .at) 0 z)) (simp (eq-eqb (w .seen) (w .count) m, eq-eqb (countOf b) (w .count) n)) in
-      walk-on s bytes 0 w k refl (c .0)
-      ∙ ap (λ (x : List ℕ). onward (walkFrom k s bytes 0) (rowFor x .class) x w (length bytes)) (c .1)
-      ∙ ap (λ (j : Class). onward (walkFrom k s bytes 0) j b w (length bytes)) (r .class)
+      goes-on s bytes 0 before b after EndRecord w k r q a (simp (ne-eqb (w .at) 0 z)) (simp (eq-eqb (w .seen) (w .count) m, eq-eqb (countOf b) (w .count) n))
 
 -- ---- the whole way over a sheet, with anything behind it
 module _ (s c : ℕ) (bytes after : List ℕ) (h : SheetOf s c bytes) (asked : ℕ) where
