@@ -4,21 +4,13 @@ use Rattle.word.specs.Words.{Scale}
 use Rattle.stored.specs.Numbers.{number4}
 use Rattle.table.specs.declared.Class.{Class}
 use Rattle.table.specs.declared.Class.the-variants.{StartRecord, FormulaRecord, EndRecord}
-use Rattle.table.proofs.Rule.{ruled}
-use Rattle.layout.specs.Fields.{codeOf, rowFor, countOf, formulaNumber}
+use Rattle.layout.specs.Fields.{codeOf, rowFor}
 use Rattle.layout.proofs.Cut.{length-bytesAt}
-use Rattle.faults.specs.Faults.{startFault}
 use Rattle.faults.proofs.Frames.{Framed, framed, reaches}
-use Rattle.faults.proofs.Lengths.{inside}
 use Rattle.walking.specs.Walking.{begin, recordHere, afterStart, afterFormula, ending, onward, runDone, faultAt, walkFrom, walkOf, Walkable, Standing}
 use Rattle.walking.specs.declared.Walk.{Walk}
 use Rattle.walking.proofs.Classes.{start-class, end-class, formula-class}
-use Rattle.walking.proofs.Clear.{Clear, clear, opened, moved, ordered, walk-on}
-
--- a start's count is 1 to 64
-pub few : (b : List ℕ) → rowFor b .class ≡ StartRecord → startFault (rowFor b) (countOf b) ≡ 0 → (1 ≤ countOf b) × (countOf b ≤ 64)
-unfolding startFault
-few b e z = rw (ruled (codeOf b) .counted, e) at (inside (rowFor b .count) (countOf b) 4 (λ q. omega arith) z)
+use Rattle.walking.proofs.Clear.{Clear, clear, opened, moved, walk-on}
 
 pub record Going (s : ℕ) (bytes : List ℕ) (from asked : ℕ) (w : Walk) : Type 0 where
   pub standing : Standing bytes from w
@@ -77,7 +69,6 @@ module _ {s : ℕ} {bytes : List ℕ} {from asked : ℕ} {w : Walk} (h : Fine s 
   past-start q e =
       let k = start-class (codeOf here) e in
       let o = opened tests k in
-      let n = few here k (o .1) in
       let g = h .going in
       let t = g .standing in
       rw q (
@@ -85,8 +76,8 @@ module _ {s : ℕ} {bytes : List ℕ} {from asked : ℕ} {w : Walk} (h : Fine s 
           standing = record { begun = omega (arith, t .begun, o .0); within = omega (arith, t .begun, o .0, long, frame .some, frame .whole) };
           near = g .near;
           seen = omega arith;
-          count = n .1;
-          scale = λ x. o .2;
+          count = o .2;
+          scale = λ x. o .3;
           left = g .left - 1;
           enough = omega (arith, g .first (o .0));
           first = λ x. absurd (omega (arith, x, long, frame .least));
@@ -100,18 +91,17 @@ module _ {s : ℕ} {bytes : List ℕ} {from asked : ℕ} {w : Walk} (h : Fine s 
   past-formula q n m =
       let k = formula-class from (codeOf here) (w .at) n m (tests .place) in
       let f = moved tests k in
-      let o = ordered (w .seen) (w .count) (w .next) (formulaNumber here) (f .1) in
       let g = h .going in
       let t = g .standing in
       rw q (
         record {
           standing = record { begun = omega (arith, t .begun); within = omega (arith, t .begun, long, frame .some, frame .whole) };
           near = g .near;
-          seen = omega (arith, o .0, g .seen);
+          seen = omega (arith, f .1, g .seen);
           count = g .count;
           scale = λ x. g .scale (f .0);
           left = g .left - 1;
-          enough = omega (arith, g .enough, g .seen, g .count, o .0);
+          enough = omega (arith, g .enough, g .seen, g .count, f .1);
           first = λ x. absurd (f .0 (omega (arith, x)));
           rest = on FormulaRecord k;
         },

@@ -3,7 +3,7 @@ use Rattle.whole.proofs.Basics.{_≡_, _∙_, refl, sym, ap, subst, Bool, true,
 use native.Mathlib.Nat.{zero-add}
 use lib.ListN.{drop-of-length-le}
 use Rattle.table.specs.declared.Class.the-variants.{StartRecord, FormulaRecord, EndRecord}
-use Rattle.layout.specs.Fields.{bytesAt, rowFor, countOf, formulaNumber}
+use Rattle.layout.specs.Fields.{bytesAt, rowFor, countOf}
 use Rattle.layout.proofs.Cut.{length-bytesAt}
 use Rattle.faults.specs.Guard.{refusal}
 use Rattle.faults.proofs.Frames.{framed, reaches}
@@ -11,9 +11,8 @@ use Rattle.records.specs.Sheets.{RecordOf, EachFormula, Rising, inLine, SheetOf
 use Rattle.walking.specs.Walking.{begin, recordHere, afterStart, afterFormula, ending, runDone, walkFrom, walkOf}
 use Rattle.walking.specs.declared.Walk.{Walk}
 use Rattle.walking.specs.declared.Walked.the-variants.{Whole, Broken}
-use Rattle.walking.proofs.Clear.{Clear, opened, moved, closed, ordered, both-counts, well}
+use Rattle.walking.proofs.Clear.{Clear, opened, moved, closed, well}
 use Rattle.walking.proofs.Records.{record-at, split-at}
-use Rattle.walking.proofs.Going.{few}
 
 -- how it ends: a sheet with an end record of the count, behind as many formulas; a run with its last byte
 abbrev Ends : ℕ → ℕ → ℕ → ℕ → List ℕ → Type 0
@@ -62,7 +61,6 @@ module _ (s : ℕ) (bytes : List ℕ) (from c k : ℕ) where
   at-end w l x e p =
       let b = recordHere bytes from w in
       let m = closed x e in
-      let n = both-counts (w .seen) (w .count) (countOf b) (m .2) in
       let z = last w (w .at + length b) (length bytes) c k p in
       subst (λ (f : ℕ). Tail s bytes f w c) (sym (m .1))
       (record {
@@ -72,10 +70,10 @@ module _ (s : ℕ) (bytes : List ℕ) (from c k : ℕ) where
             let i : w .at - 0 ≡ w .at - from = omega (arith, m .1) in
             ap (λ (j : ℕ). drop j bytes) i ∙ split-at bytes (w .at - from) (x .frame)
             ∙ ap (λ (t : List ℕ). b ++ t) (drop-of-length-le bytes {i = w .at - from + length b} (omega (arith, z .0, m .1))) ∙ append-nil b;
-        room = omega (arith, n .0);
+        room = omega (arith, m .2);
         each = tt;
         rising = tt;
-        ends = (record-at bytes (w .at - from) (x .frame) EndRecord e (x .size), n .1 ∙ z .1, omega (arith, n .0, z .1), z .1);
+        ends = (record-at bytes (w .at - from) (x .frame) EndRecord e (x .size), m .3 ∙ z .1, omega (arith, m .2, z .1), z .1);
       })
 
   -- a formula, in front of what follows it
@@ -91,8 +89,8 @@ module _ (s : ℕ) (bytes : List ℕ) (from c k : ℕ) where
             split-at bytes (w .at - from) (x .frame)
             ∙ ap (λ (r : List ℕ). b ++ r) (sym (ap (λ (j : ℕ). drop j bytes) i) ∙ t .rest) ∙ sym (append-assoc b (inLine (t .formulas)) (t .finish));
         room = omega (arith, t .room);
-        each = (record { one = record-at bytes (w .at - from) (x .frame) FormulaRecord e (x .size); inner = m .2 }, t .each);
-        rising = (ordered (w .seen) (w .count) (w .next) (formulaNumber b) (m .1) .1, t .rising);
+        each = (record { one = record-at bytes (w .at - from) (x .frame) FormulaRecord e (x .size); inner = m .3 }, t .each);
+        rising = (m .2, t .rising);
         ends = let n : w .seen + 1 + length (t .formulas) ≡ w .seen + length (b ∷ t .formulas) = omega arith in subst (λ (j : ℕ). Ends from j (w .count) c (t .finish)) n (t .ends);
       }
 
@@ -102,9 +100,7 @@ module _ (s : ℕ) (bytes : List ℕ) (from c k : ℕ) where
   tail (suc n) w a l m e =
       let b = recordHere bytes from w in
       well s bytes from w n c k e (run-end w m) (λ x q p. absurd (a (opened x q .0)))
-      (λ x q p.
-      let o = ordered (w .seen) (w .count) (w .next) (formulaNumber b) (moved x q .1) in
-      at-formula w x l q (tail n (afterFormula b w) (λ z. a (omega (arith, z))) (omega (arith, l)) (omega (arith, m, o .0)) p))
+      (λ x q p. at-formula w x l q (tail n (afterFormula b w) (λ z. a (omega (arith, z))) (omega (arith, l)) (omega (arith, m, moved x q .1)) p))
       (at-end w l)
 
 -- ---- of a sheet
@@ -116,17 +112,16 @@ module _ (s : ℕ) (bytes : List ℕ) (c k asked : ℕ) where
       let f = framed bytes 0 (x .frame) in
       let l = length-bytesAt bytes 0 (reaches bytes 0 f) in
       let t = tail s bytes 0 c k 65 (afterStart b (begin 0 asked)) (λ z. omega (arith, z, l, f .least)) (omega arith) (omega arith) p in
-      let n = few b e (o .1) in
       let m = t .ends .3 in
       record {
-        scale = o .2;
+        scale = o .3;
         start = b;
         formulas = t .formulas;
         finish = t .finish;
         whole =
             let i : length b ≡ length b - 0 = omega arith in
             rw (zero-add (length b)) at (split-at bytes 0 (x .frame)) ∙ ap (λ (r : List ℕ). b ++ r) (ap (λ (j : ℕ). drop j bytes) i ∙ t .rest);
-        opens = (record-at bytes 0 (x .frame) StartRecord e (x .size), m, omega (arith, n .0, m), omega (arith, n .1, m));
+        opens = (record-at bytes 0 (x .frame) StartRecord e (x .size), m, omega (arith, o .1, m), omega (arith, o .2, m));
         many = omega (arith, t .ends .2);
         each = t .each;
         rising = t .rising;

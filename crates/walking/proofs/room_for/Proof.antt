@@ -11,11 +11,5 @@ some : (n : ℕ) → ¬ (n ≡ 0) → 64 ≡ roomFor n
 some zero h = absurd (h refl)
 some (suc n) h = refl
 
-returns : tie.Need-returns
-returns c = none _ (c .if1 .taken)
-
-returns-2 : tie.Need-returns-2
-returns-2 c = some _ (c .if1 .left)
-
 pub room-for-spec : {M : Type 1} → statement M
-room-for-spec = tie.close (tie.spec returns returns-2)
+room-for-spec = tie.close (tie.spec (λ c. none _ (c .if1 .taken)) (λ c. some _ (c .if1 .left)))
