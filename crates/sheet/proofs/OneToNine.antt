@@ -1,6 +1,6 @@
 -- Promise: any bytes are accepted, or refused by one of a sheet's refusals; a number asked for is refused by these, or by 11 at place 0.
 -- Each check of a record is made of tests and of numbers from the list: two laws say that such a number is 0 or a refusal of the list, and `search` goes through the checks by them.
-use Rattle.whole.proofs.Basics.{_≡_, refl, ap, subst, Bool, true, false, cond, _⊎_, inl, inr, List, [], _∷_, ℕ, suc, zero, _-_, T, eqb, ltb, length, ℤ, eqb-true, eqb-false, eq-eqb}
+use Rattle.whole.proofs.Basics.{_≡_, refl, ap, subst, Bool, true, false, cond, _⊎_, inl, inr, List, [], _∷_, ℕ, suc, zero, _+_, T, eqb, ltb, length, ℤ, eqb-true, eqb-false, eq-eqb}
 use mathlib.Core.Bool.{_||_}
 use Rattle.admission.specs.declared.Admission.{Admission}
 use Rattle.admission.specs.declared.Admission.the-variants.{Admitted, RangeLeft, DivisorZero}
@@ -109,30 +109,23 @@ guarded fault at x h k = go (eqb fault 0) refl (h .number)
     go false e (inl z) = absurd (eqb-false fault 0 e z)
     go false e (inr h) = inr h
 
-end : (w : Walk) (place n : ℕ) → Numbered (ending w place n)
-unfolding ending
-end w place n = go (ltb place n)
-  where
-    go : (b : Bool) → Numbered (cond b (Broken (refusal place 9)) (Whole (w .count) (w .found)))
-    go true = one-of sheetRefusals 9 tt
-    go false = tt
+either : (t : Bool) (x y : Walked) → Numbered x → Numbered y → Numbered (cond t x y)
+either true x y h k = h
+either false x y h k = k
 
 past : (next : Walk → Walked) → ((v : Walk) → Numbered (next v)) → (k : Class) (b : List ℕ) (w : Walk) (n : ℕ) → Numbered (onward next k b w n)
+unfolding ending
 past next h StartRecord b w n = h _
 past next h FormulaRecord b w n = h _
-past next h EndRecord b w n = end w _ n
+past next h EndRecord b w n = either (ltb (w .at + length b) n) _ (Whole (w .count) (w .found)) (one-of sheetRefusals 9 tt) tt
 past next h Unknown b w n = one-of sheetRefusals 3 tt
-
-done-or : (t : Bool) (w : Walk) (x : Walked) → Numbered x → Numbered (cond t (Whole (w .seen) (w .found)) x)
-done-or true w x h = tt
-done-or false w x h = h
 
 walks : (k s : ℕ) (bytes : List ℕ) (from : ℕ) (w : Walk) → Numbered (walkFrom k s bytes from w)
 unfolding walkFrom
 walks zero s bytes from w = one-of sheetRefusals 4 tt
 walks (suc k) s bytes from w =
     let b = recordHere bytes from w in
-    done-or (runDone bytes from w) w _
+    either (runDone bytes from w) _ _ tt
     (guarded (faultAt s bytes from w) (w .at) _ (whole s bytes from w)
     (past (walkFrom k s bytes from) (walks k s bytes from) (rowFor b .class) b w (length bytes)))
 

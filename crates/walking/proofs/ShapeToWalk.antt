@@ -86,11 +86,8 @@ run-walked s c bytes h from asked =
     let w = begin (suc from) asked in
     let d = behind fs w in
     let k : 66 ≡ length fs + suc (65 - c) = omega (arith, h .many, h .most) in
+    let seen : afterAll fs w .seen ≡ c = omega (arith, d .seen, h .many) in
     ap (λ (j : ℕ). walkFrom j s bytes (suc from) w) k
     ∙ past-all s bytes (suc from) fs [] [] w (suc (65 - c)) (h .whole ∙ sym (append-nil (inLine fs))) (omega arith) (λ z. omega (arith, z)) (omega (arith, h .many, h .most)) (h .each) (h .rising)
     ∙ walk-done s bytes (suc from) (afterAll fs w) (65 - c) (eq-eqb (afterAll fs w .at - suc from) (length bytes) (omega (arith, d .at, ap length (h .whole))))
-    ∙ rw (d .found, d .seen) (ap (λ (n : ℕ). Whole n (placeIn asked (suc from) 0 fs)) (counted fs c (h .many)))
-  where
-    -- nothing was seen before
-    counted : (fs : List (List ℕ)) (c : ℕ) → length fs ≡ c → 0 + length fs ≡ c
-    counted fs c e = omega (arith, e)
+    ∙ rw (d .found, seen) refl
