@@ -1,5 +1,5 @@
 -- A record's check by its code: a formula's, of which a root has no words, or none that a formula has.
-use Rattle.whole.proofs.Basics.{_≡_, _∙_, refl, sym, ap, List, ℕ, _-_, arith}
+use Rattle.whole.proofs.Basics.{_≡_, _∙_, refl, sym, ap, List, ℕ, arith}
 use Rattle.stored.specs.Words.{words}
 use Rattle.formula.specs.declared.Kind.{Kind}
 use Rattle.formula.specs.declared.Kind.the-variants.{Polynomial, Rational, Fraction, Root, NoFormula}

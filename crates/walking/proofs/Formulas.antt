@@ -4,12 +4,12 @@ use native.Mathlib.Nat.{zero-add}
 use Rattle.table.specs.declared.Class.{Class}
 use Rattle.table.specs.declared.Class.the-variants.{FormulaRecord}
 use Rattle.layout.specs.Fields.{rowFor, formulaNumber}
-use Rattle.faults.specs.Faults.{lengthFault, orderFault}
+use Rattle.faults.specs.Faults.{orderFault}
 use Rattle.records.specs.Sheets.{RecordOf, FormulaBytes, EachFormula, Rising, inLine}
-use Rattle.walking.specs.Walking.{placeFault, classFault, recordHere, foundBy, afterFormula, onward, runDone, faultAt, walkFrom}
+use Rattle.walking.specs.Walking.{placeFault, classFault, recordHere, foundBy, afterFormula, onward, runDone, walkFrom}
 use Rattle.walking.specs.Refused.{nextNumber}
 use Rattle.walking.specs.declared.Walk.{Walk}
-use Rattle.walking.proofs.Clear.{no-fault, walk-on}
+use Rattle.walking.proofs.Clear.{Clear, no-fault, walk-on}
 use Rattle.walking.proofs.Records.{frame-there, bytes-there}
 
 -- the place that a walk notes on its way over formulas
@@ -23,24 +23,8 @@ afterAll [] w = w
 afterAll (b ∷ bs) w = afterAll bs (afterFormula b w)
 
 module _ (s : ℕ) (bytes : List ℕ) (from : ℕ) where
-  -- a record of a class stands at the walk's place, without fault
-  pub no-fault-there : (before b after : List ℕ) (k : Class) → RecordOf k b → (w : Walk) → bytes ≡ before ++ (b ++ after) → w .at ≡ from + length before → placeFault from k (w .at) ≡ 0 → classFault s k (rowFor b) b w ≡ 0
-      → (faultAt s bytes from w ≡ 0) × (recordHere bytes from w ≡ b)
-  no-fault-there before b after k r w q a p c =
-      let n : w .at - from ≡ length before = omega (arith, a) in
-      let h : recordHere bytes from w ≡ b = rw (n, q) (bytes-there before b after k r) in (
-        no-fault s bytes from w
-            (record {
-              frame = rw (n, q) (frame-there before b after k r);
-              place = subst (λ (x : List ℕ). placeFault from (rowFor x .class) (w .at) ≡ 0) (sym h) (subst (λ (j : Class). placeFault from j (w .at) ≡ 0) (sym (r .class)) p);
-              size = subst (λ (x : List ℕ). lengthFault (rowFor x) x ≡ 0) (sym h) (r .exact);
-              content = subst (λ (x : List ℕ). classFault s (rowFor x .class) (rowFor x) x w ≡ 0) (sym h) (subst (λ (j : Class). classFault s j (rowFor b) b w ≡ 0) (sym (r .class)) c);
-            }),
-        h,
-      )
-
   -- a run is not done before a record
-  pub not-done : (before b after : List ℕ) (w : Walk) → bytes ≡ before ++ (b ++ after) → w .at ≡ from + length before → 8 ≤ length b → runDone bytes from w ≡ false
+  not-done : (before b after : List ℕ) (w : Walk) → bytes ≡ before ++ (b ++ after) → w .at ≡ from + length before → 8 ≤ length b → runDone bytes from w ≡ false
   not-done before b after w q a l = by from refl
     where
       long : length bytes ≡ length before + (length b + length after)
@@ -50,15 +34,28 @@ module _ (s : ℕ) (bytes : List ℕ) (from : ℕ) where
       by zero e = refl
       by (suc n) e = ne-eqb (w .at - suc n) (length bytes) (λ z. omega (arith, z, a, e, long, l))
 
-  pub past-one : (before b after : List ℕ) (w : Walk) (k : ℕ) → bytes ≡ before ++ (b ++ after) → w .at ≡ from + length before → (w .at ≡ 0 → ⊥) → (w .seen ≡ w .count → ⊥) → FormulaBytes s b → w .next ≤ formulaNumber b
+  -- a record of a class stands at the walk's place, without fault: the walk goes on by its class
+  pub goes-on : (before b after : List ℕ) (k : Class) (w : Walk) (n : ℕ) → RecordOf k b → bytes ≡ before ++ (b ++ after) → w .at ≡ from + length before → placeFault from k (w .at) ≡ 0 → classFault s k (rowFor b) b w ≡ 0
+      → walkFrom (suc n) s bytes from w ≡ onward (walkFrom n s bytes from) k b w (length bytes)
+  goes-on before b after k w n r q a p c =
+      let i : w .at - from ≡ length before = omega (arith, a) in
+      let h : recordHere bytes from w ≡ b = rw (i, q) (bytes-there before b after k r) in
+      let fine : Clear s bytes from w b =
+      record {
+        frame = rw (i, q) (frame-there before b after k r);
+        place = subst (λ (j : Class). placeFault from j (w .at) ≡ 0) (sym (r .class)) p;
+        size = r .exact;
+        content = subst (λ (j : Class). classFault s j (rowFor b) b w ≡ 0) (sym (r .class)) c;
+      } in
+      walk-on s bytes from w n (not-done before b after w q a (r .least)) (no-fault s bytes from w (subst (Clear s bytes from w) (sym h) fine))
+      ∙ ap (λ (x : List ℕ). onward (walkFrom n s bytes from) (rowFor x .class) x w (length bytes)) h
+      ∙ ap (λ (j : Class). onward (walkFrom n s bytes from) j b w (length bytes)) (r .class)
+
+  past-one : (before b after : List ℕ) (w : Walk) (k : ℕ) → bytes ≡ before ++ (b ++ after) → w .at ≡ from + length before → (w .at ≡ 0 → ⊥) → (w .seen ≡ w .count → ⊥) → FormulaBytes s b → w .next ≤ formulaNumber b
       → walkFrom (suc k) s bytes from w ≡ walkFrom k s bytes from (afterFormula b w)
   unfolding orderFault
   past-one before b after w k q a z m f o =
-      let c = no-fault-there before b after FormulaRecord (f .one) w q a (simp (ne-eqb (w .at) 0 z))
-      (simp (ne-eqb (w .seen) (w .count) m, le-ltb (formulaNumber b) (w .next) o) (f .inner)) in
-      walk-on s bytes from w k (not-done before b after w q a (f .one .least)) (c .0)
-      ∙ ap (λ (x : List ℕ). onward (walkFrom k s bytes from) (rowFor x .class) x w (length bytes)) (c .1)
-      ∙ ap (λ (j : Class). onward (walkFrom k s bytes from) j b w (length bytes)) (f .one .class)
+      goes-on before b after FormulaRecord w k (f .one) q a (simp (ne-eqb (w .at) 0 z)) (simp (ne-eqb (w .seen) (w .count) m, le-ltb (formulaNumber b) (w .next) o) (f .inner))
 
   pub past-all : (fs : List (List ℕ)) (before after : List ℕ) (w : Walk) (k : ℕ) → bytes ≡ before ++ (inLine fs ++ after) → w .at ≡ from + length before → (w .at ≡ 0 → ⊥) → w .seen + length fs ≤ w .count → EachFormula s fs → Rising (w .next) fs
       → walkFrom (length fs + k) s bytes from w ≡ walkFrom k s bytes from (afterAll fs w)

@@ -3,22 +3,15 @@ use Rattle.whole.proofs.Basics.{_≡_, _∙_, refl, ap, false, List, ℕ, suc, 
 use Rattle.word.specs.Words.{Scale}
 use Rattle.stored.specs.Numbers.{number4}
 use Rattle.table.specs.declared.Class.{Class}
-use Rattle.table.specs.declared.Class.the-variants.{StartRecord, FormulaRecord}
+use Rattle.table.specs.declared.Class.the-variants.{StartRecord, FormulaRecord, EndRecord}
 use Rattle.table.specs.Table.{rows, firstRow, rowOf}
-use Rattle.table.proofs.Rule.{ruled}
-use Rattle.layout.specs.Fields.{codeOf, rowFor, countOf, formulaNumber}
+use Rattle.layout.specs.Fields.{codeOf, rowFor}
 use Rattle.layout.proofs.Cut.{length-bytesAt}
-use Rattle.faults.specs.Faults.{startFault}
 use Rattle.faults.proofs.Frames.{Framed, framed, reaches}
-use Rattle.faults.proofs.Lengths.{inside}
-use Rattle.walking.specs.Walking.{begin, recordHere, afterStart, afterFormula, onward, runDone, faultAt, walkFrom, walkOf, Walkable, Standing}
+use Rattle.walking.specs.Walking.{begin, recordHere, afterStart, afterFormula, ending, onward, runDone, faultAt, walkFrom, walkOf, Walkable, Standing}
 use Rattle.walking.specs.declared.Walk.{Walk}
-use Rattle.walking.proofs.Clear.{Clear, clear, opened, moved, ordered, walk-on}
-
--- a start's count is 1 to 64
-pub few : (b : List ℕ) → rowFor b .class ≡ StartRecord → startFault (rowFor b) (countOf b) ≡ 0 → (1 ≤ countOf b) × (countOf b ≤ 64)
-unfolding startFault
-few b e z = rw (ruled (codeOf b) .counted, e) at (inside (rowFor b .count) (countOf b) 4 (λ q. omega arith) z)
+use Rattle.walking.proofs.Classes.{start-class, end-class, formula-class}
+use Rattle.walking.proofs.Clear.{Clear, clear, opened, moved, walk-on}
 
 -- and so is that of a run's records
 pub run-room : (from asked : ℕ) → begin (suc from) asked .count ≡ 64
@@ -44,65 +37,83 @@ starts s bytes zero asked h =
 starts s bytes (suc n) asked h =
     record { standing = record { begun = omega arith; within = omega arith }; near = h .near; seen = omega arith; count = omega (arith, run-room n asked); scale = λ q. h .scale (λ z. omega arith); left = 66; enough = omega arith; first = λ z. omega arith; rest = refl }
 
-module _ (s : ℕ) (bytes : List ℕ) (from asked : ℕ) (w : Walk) (g : Going s bytes from asked w) where
-  -- one record at least
-  some : g .left ≡ suc (g .left - 1)
-  some = omega (arith, g .enough, g .seen, g .count)
+-- one record at least may come
+pub rest-is : {s : ℕ} {bytes : List ℕ} {from asked : ℕ} {w : Walk} (g : Going s bytes from asked w) → walkOf s bytes from asked ≡ walkFrom (suc (g .left - 1)) s bytes from w
+rest-is {s = s} {bytes = bytes} {from = from} {w = w} g =
+    let some : g .left ≡ suc (g .left - 1) = omega (arith, g .enough, g .seen, g .count) in
+    g .rest ∙ ap (λ (k : ℕ). walkFrom k s bytes from w) some
 
-  pub rest-is : walkOf s bytes from asked ≡ walkFrom (suc (g .left - 1)) s bytes from w
-  rest-is = g .rest ∙ ap (λ (k : ℕ). walkFrom k s bytes from w) some
+-- the walk stands at a record without fault
+pub record Fine (s : ℕ) (bytes : List ℕ) (from asked : ℕ) (w : Walk) : Type 0 where
+  pub going : Going s bytes from asked w
+  pub not-done : runDone bytes from w ≡ false
+  pub no-fault : faultAt s bytes from w ≡ 0
 
-  module _ (d : runDone bytes from w ≡ false) where
-    module _ (z : faultAt s bytes from w ≡ 0) where
-      abbrev pub b : List ℕ
-      b = recordHere bytes from w
+module _ {s : ℕ} {bytes : List ℕ} {from asked : ℕ} {w : Walk} (h : Fine s bytes from asked w) where
+  abbrev pub here : List ℕ
+  here = recordHere bytes from w
 
-      c : Clear s bytes from w b
-      c = clear s bytes from w z
+  -- past it the walk goes on, and has come nearer to the end
+  abbrev pub Past : Walk → Type 0
+  Past v = Going s bytes from asked v × (from + length bytes - v .at < from + length bytes - w .at)
 
-      pub frame : Framed bytes (w .at - from)
-      frame = framed bytes (w .at - from) (c .frame)
+  tests : Clear s bytes from w here
+  tests = clear s bytes from w (h .no-fault)
 
-      pub long : length b ≡ number4 bytes (w .at - from)
-      long = length-bytesAt bytes (w .at - from) (reaches bytes (w .at - from) frame)
+  pub frame : Framed bytes (w .at - from)
+  frame = framed bytes (w .at - from) (tests .frame)
 
-      pub on : (k : Class) → rowFor b .class ≡ k → walkOf s bytes from asked ≡ onward (walkFrom (g .left - 1) s bytes from) k b w (length bytes)
-      on k e = rest-is ∙ walk-on s bytes from w (g .left - 1) d z ∙ ap (λ (j : Class). onward (walkFrom (g .left - 1) s bytes from) j b w (length bytes)) e
+  pub long : length here ≡ number4 bytes (w .at - from)
+  long = length-bytesAt bytes (w .at - from) (reaches bytes (w .at - from) frame)
 
-      pub past-start : rowFor b .class ≡ StartRecord → Going s bytes from asked (afterStart b w) × (from + length bytes - length b < from + length bytes - w .at)
-      past-start e =
-          let o = opened c e in
-          let n = few b e (o .1) in
-          let t = g .standing in (
-            record {
-              standing = record { begun = omega (arith, t .begun, o .0); within = omega (arith, t .begun, o .0, long, frame .some, frame .whole) };
-              near = g .near;
-              seen = omega arith;
-              count = n .1;
-              scale = λ q. o .2;
-              left = g .left - 1;
-              enough = omega (arith, g .first (o .0));
-              first = λ q. absurd (omega (arith, q, long, frame .least));
-              rest = on StartRecord e;
-            },
-            omega (arith, t .begun, o .0, long, frame .least, frame .some, frame .whole),
-          )
+  on : (k : Class) → rowFor here .class ≡ k → walkOf s bytes from asked ≡ onward (walkFrom (h .going .left - 1) s bytes from) k here w (length bytes)
+  on k e =
+      let n = h .going .left - 1 in
+      rest-is (h .going) ∙ walk-on s bytes from w n (h .not-done) (h .no-fault) ∙ ap (λ (j : Class). onward (walkFrom n s bytes from) j here w (length bytes)) e
 
-      pub past-formula : rowFor b .class ≡ FormulaRecord → Going s bytes from asked (afterFormula b w) × (from + length bytes - (w .at + length b) < from + length bytes - w .at)
-      past-formula e =
-          let m = moved c e in
-          let o = ordered (w .seen) (w .count) (w .next) (formulaNumber b) (m .1) in
-          let t = g .standing in (
-            record {
-              standing = record { begun = omega (arith, t .begun); within = omega (arith, t .begun, long, frame .some, frame .whole) };
-              near = g .near;
-              seen = omega (arith, o .0, g .seen);
-              count = g .count;
-              scale = λ q. g .scale (m .0);
-              left = g .left - 1;
-              enough = omega (arith, g .enough, g .seen, g .count, o .0);
-              first = λ q. absurd (m .0 (omega (arith, q)));
-              rest = on FormulaRecord e;
-            },
-            omega (arith, t .begun, t .within, long, frame .least, frame .some, frame .whole),
-          )
+  pub past-start : {v : Walk} → v ≡ afterStart here w → codeOf here ≡ 0x0001 → Past v
+  past-start q e =
+      let k = start-class (codeOf here) e in
+      let o = opened tests k in
+      let g = h .going in
+      let t = g .standing in
+      rw q (
+        record {
+          standing = record { begun = omega (arith, t .begun, o .0); within = omega (arith, t .begun, o .0, long, frame .some, frame .whole) };
+          near = g .near;
+          seen = omega arith;
+          count = o .2;
+          scale = λ x. o .3;
+          left = g .left - 1;
+          enough = omega (arith, g .first (o .0));
+          first = λ x. absurd (omega (arith, x, long, frame .least));
+          rest = on StartRecord k;
+        },
+        omega (arith, t .begun, o .0, long, frame .least, frame .some, frame .whole),
+      )
+
+  -- neither a start nor an end is a formula, where it stands
+  pub past-formula : {v : Walk} → v ≡ afterFormula here w → (codeOf here ≡ 0x0001 → ⊥) → (codeOf here ≡ 0xffff → ⊥) → Past v
+  past-formula q n m =
+      let k = formula-class from (codeOf here) (w .at) n m (tests .place) in
+      let f = moved tests k in
+      let g = h .going in
+      let t = g .standing in
+      rw q (
+        record {
+          standing = record { begun = omega (arith, t .begun); within = omega (arith, t .begun, long, frame .some, frame .whole) };
+          near = g .near;
+          seen = omega (arith, f .1, g .seen);
+          count = g .count;
+          scale = λ x. g .scale (f .0);
+          left = g .left - 1;
+          enough = omega (arith, g .enough, g .seen, g .count, f .1);
+          first = λ x. absurd (f .0 (omega (arith, x)));
+          rest = on FormulaRecord k;
+        },
+        omega (arith, t .begun, t .within, long, frame .least, frame .some, frame .whole),
+      )
+
+  -- an end ends it
+  pub at-end : codeOf here ≡ 0xffff → walkOf s bytes from asked ≡ ending w (w .at + length here) (length bytes)
+  at-end e = on EndRecord (end-class (codeOf here) e)

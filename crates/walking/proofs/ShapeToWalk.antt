@@ -1,7 +1,6 @@
 -- What the walk makes of the bytes of a sheet, with anything behind them, and of a run: a start, then past each formula, then the end.
 use Rattle.whole.proofs.Basics.{_≡_, _∙_, refl, sym, ap, cond, List, [], _++_, append-assoc, append-nil, ℕ, suc, _+_, _-_, _≤_, arith, ltb, length, length-append, eq-eqb, ne-eqb, le-ltb}
 use Rattle.word.specs.Words.{Scale}
-use Rattle.table.specs.declared.Class.{Class}
 use Rattle.table.specs.declared.Class.the-variants.{StartRecord, EndRecord}
 use Rattle.table.proofs.Rule.{ruled}
 use Rattle.layout.specs.Fields.{codeOf, rowFor, countOf}
@@ -9,13 +8,13 @@ use Rattle.faults.specs.Guard.{refusal}
 use Rattle.faults.specs.Faults.{outside, startFault, endFault}
 use Rattle.faults.proofs.ScaleLaws.{no-scale-fault}
 use Rattle.records.specs.Sheets.{RecordOf, inLine, SheetOf, RunOf}
-use Rattle.walking.specs.Walking.{begin, afterStart, ending, onward, walkFrom, walkOf}
+use Rattle.walking.specs.Walking.{begin, afterStart, ending, walkFrom, walkOf}
 use Rattle.walking.specs.declared.Walk.{Walk}
 use Rattle.walking.specs.declared.Walked.{Walked}
 use Rattle.walking.specs.declared.Walked.the-variants.{Whole, Broken}
-use Rattle.walking.proofs.Clear.{walk-done, walk-on}
+use Rattle.walking.proofs.Clear.{walk-done}
 use Rattle.walking.proofs.Going.{run-room}
-use Rattle.walking.proofs.Formulas.{placeIn, afterAll, behind, no-fault-there, past-all}
+use Rattle.walking.proofs.Formulas.{placeIn, afterAll, behind, goes-on, past-all}
 
 -- what the end record gives, with n bytes in all
 abbrev pub closing : ℕ → ℕ → ℕ → ℕ → Walked
@@ -30,21 +29,14 @@ module _ (s : ℕ) (bytes : List ℕ) where
   pub past-start : (b after : List ℕ) (asked k : ℕ) → bytes ≡ b ++ after → RecordOf StartRecord b → 1 ≤ countOf b → countOf b ≤ 64 → Scale s
       → walkFrom (suc k) s bytes 0 (begin 0 asked) ≡ walkFrom k s bytes 0 (afterStart b (begin 0 asked))
   past-start b after asked k q r l m h =
-      let w = begin 0 asked in
-      let c = no-fault-there s bytes 0 [] b after StartRecord r w q refl refl (rw (eq-eqb _ _ (start-fine b (countOf b) (r .class) l m)) (no-scale-fault s h)) in
-      walk-on s bytes 0 w k refl (c .0)
-      ∙ ap (λ (x : List ℕ). onward (walkFrom k s bytes 0) (rowFor x .class) x w (length bytes)) (c .1)
-      ∙ ap (λ (j : Class). onward (walkFrom k s bytes 0) j b w (length bytes)) (r .class)
+      goes-on s bytes 0 [] b after StartRecord (begin 0 asked) k r q refl refl (rw (eq-eqb _ _ (start-fine b (countOf b) (r .class) l m)) (no-scale-fault s h))
 
   -- at the end
   at-end : (before b after : List ℕ) (w : Walk) (k : ℕ) → bytes ≡ before ++ (b ++ after) → w .at ≡ 0 + length before → (w .at ≡ 0 → ⊥) → RecordOf EndRecord b → w .seen ≡ w .count → countOf b ≡ w .count
       → walkFrom (suc k) s bytes 0 w ≡ closing (w .count) (w .found) (w .at + length b) (length bytes)
   unfolding endFault ending
   at-end before b after w k q a z r m n =
-      let c = no-fault-there s bytes 0 before b after EndRecord r w q a (simp (ne-eqb (w .at) 0 z)) (simp (eq-eqb (w .seen) (w .count) m, eq-eqb (countOf b) (w .count) n)) in
-      walk-on s bytes 0 w k refl (c .0)
-      ∙ ap (λ (x : List ℕ). onward (walkFrom k s bytes 0) (rowFor x .class) x w (length bytes)) (c .1)
-      ∙ ap (λ (j : Class). onward (walkFrom k s bytes 0) j b w (length bytes)) (r .class)
+      goes-on s bytes 0 before b after EndRecord w k r q a (simp (ne-eqb (w .at) 0 z)) (simp (eq-eqb (w .seen) (w .count) m, eq-eqb (countOf b) (w .count) n))
 
 -- ---- the whole way over a sheet, with anything behind it
 module _ (s c : ℕ) (bytes after : List ℕ) (h : SheetOf s c bytes) (asked : ℕ) where
@@ -95,11 +87,8 @@ run-walked s c bytes h from asked =
     let w = begin (suc from) asked in
     let d = behind fs w in
     let k : 66 ≡ length fs + suc (65 - c) = omega (arith, h .many, h .most) in
+    let seen : afterAll fs w .seen ≡ c = omega (arith, d .seen, h .many) in
     ap (λ (j : ℕ). walkFrom j s bytes (suc from) w) k
     ∙ past-all s bytes (suc from) fs [] [] w (suc (65 - c)) (h .whole ∙ sym (append-nil (inLine fs))) (omega arith) (λ z. omega (arith, z)) (omega (arith, h .many, h .most, run-room from asked)) (h .each) (h .rising)
     ∙ walk-done s bytes (suc from) (afterAll fs w) (65 - c) (eq-eqb (afterAll fs w .at - suc from) (length bytes) (omega (arith, d .at, ap length (h .whole))))
-    ∙ rw (d .found, d .seen) (ap (λ (n : ℕ). Whole n (placeIn asked (suc from) 0 fs)) (counted fs c (h .many)))
-  where
-    -- nothing was seen before
-    counted : (fs : List (List ℕ)) (c : ℕ) → length fs ≡ c → 0 + length fs ≡ c
-    counted fs c e = omega (arith, e)
+    ∙ rw (d .found, seen) refl

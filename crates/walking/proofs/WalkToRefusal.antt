@@ -17,9 +17,8 @@ use Rattle.walking.specs.Refused.{nextNumber, faultThere, AtTheStart, Be
 use Rattle.walking.specs.declared.Walk.{Walk}
 use Rattle.walking.specs.declared.Walked.{Walked}
 use Rattle.walking.specs.declared.Walked.the-variants.{Whole, Broken}
-use Rattle.walking.proofs.Clear.{Clear, clear, opened, moved, closed, known, ordered, both-counts}
+use Rattle.walking.proofs.Clear.{Clear, opened, moved, closed, by-record}
 use Rattle.walking.proofs.Records.{record-at, split-at}
-use Rattle.walking.proofs.Going.{few}
 
 -- ---- the fault at a walk's place, whatever number is asked for
 class-fault : (s : ℕ) (k : Class) (r : Row) (b : List ℕ) (w : Walk) → classFault s k r b (walk (w .at) (w .count) (w .seen) (w .next) 0 0) ≡ classFault s k r b w
@@ -62,20 +61,6 @@ record Tail (s : ℕ) (bytes : List ℕ) (w : Walk) (r : Refusal) : Type 0 where
   rising : Rising (w .next) formulas
   ends : Fault s bytes (w .at + length (inLine formulas)) (w .count) (w .seen + length formulas) (nextNumber (w .next) formulas) r ⊎ Ended (w .at + length (inLine formulas)) (w .count) (w .seen + length formulas) after r
 
--- one record of a broken walk
-ill : (s : ℕ) (bytes : List ℕ) (w : Walk) (k : ℕ) (r : Refusal) → walkFrom (suc k) s bytes 0 w ≡ Broken r
-    → ((faultAt s bytes 0 w ≡ 0 → ⊥) × (r ≡ refusal (w .at) (faultAt s bytes 0 w))) ⊎ ((faultAt s bytes 0 w ≡ 0) × (onward (walkFrom k s bytes 0) (rowFor (recordHere bytes 0 w) .class) (recordHere bytes 0 w) w (length bytes) ≡ Broken r))
-unfolding walkFrom
-ill s bytes w k r e = at (eqb (faultAt s bytes 0 w) 0) refl e
-  where
-    rest : Walked
-    rest = onward (walkFrom k s bytes 0) (rowFor (recordHere bytes 0 w) .class) (recordHere bytes 0 w) w (length bytes)
-
-    at : (t : Bool) → eqb (faultAt s bytes 0 w) 0 ≡ t → cond t rest (Broken (refusal (w .at) (faultAt s bytes 0 w))) ≡ Broken r
-        → ((faultAt s bytes 0 w ≡ 0 → ⊥) × (r ≡ refusal (w .at) (faultAt s bytes 0 w))) ⊎ ((faultAt s bytes 0 w ≡ 0) × (rest ≡ Broken r))
-    at true q p = inr (eqb-true _ _ q, p)
-    at false q p = inl (eqb-false _ _ q, cc)
-
 -- an end that is refused has bytes behind it
 refused-end : (w : Walk) (e n : ℕ) (r : Refusal) → ending w e n ≡ Broken r → (e < n) × (r ≡ refusal e 9)
 unfolding ending
@@ -104,13 +89,13 @@ module _ (s : ℕ) (bytes : List ℕ) (r : Refusal) where
   at-end : (w : Walk) → Clear s bytes 0 w (recordHere bytes 0 w) → rowFor (recordHere bytes 0 w) .class ≡ EndRecord → ending w (w .at + length (recordHere bytes 0 w)) (length bytes) ≡ Broken r → Tail s bytes w r
   at-end w x e p =
       let b = recordHere bytes 0 w in
-      let n = both-counts (w .seen) (w .count) (countOf b) (closed x e .2) in
+      let n = closed x e in
       let z = refused-end w (w .at + length b) (length bytes) r p in
       record {
         formulas = [];
         after = drop (w .at - 0) bytes;
         rest = refl;
-        room = omega (arith, n .0);
+        room = omega (arith, n .2);
         each = tt;
         rising = tt;
         ends =
@@ -119,8 +104,8 @@ module _ (s : ℕ) (bytes : List ℕ) (r : Refusal) where
               finish = b;
               behind = drop (w .at - 0 + length b) bytes;
               whole = split-at bytes (w .at - 0) (x .frame);
-              closes = (record-at bytes (w .at - 0) (x .frame) EndRecord e (x .size), n .1);
-              all = omega (arith, n .0);
+              closes = (record-at bytes (w .at - 0) (x .frame) EndRecord e (x .size), n .3);
+              all = omega (arith, n .2);
               more = omega (arith, z .0, length-drop (w .at - 0 + length b) bytes);
               nine = z .1 ∙ ap (λ (n : ℕ). refusal n 9) (omega arith);
             });
@@ -138,28 +123,18 @@ module _ (s : ℕ) (bytes : List ℕ) (r : Refusal) where
         after = t .after;
         rest = split-at bytes (w .at - 0) (x .frame) ∙ ap (λ (y : List ℕ). b ++ y) (ap (λ (j : ℕ). drop j bytes) i ∙ t .rest) ∙ sym (append-assoc b (inLine (t .formulas)) (t .after));
         room = omega (arith, t .room);
-        each = (record { one = record-at bytes (w .at - 0) (x .frame) FormulaRecord e (x .size); inner = m .2 }, t .each);
-        rising = (ordered (w .seen) (w .count) (w .next) (formulaNumber b) (m .1) .1, t .rising);
+        each = (record { one = record-at bytes (w .at - 0) (x .frame) FormulaRecord e (x .size); inner = m .3 }, t .each);
+        rising = (m .2, t .rising);
         ends = rw (far, many) at (t .ends);
       }
 
   tail : (n : ℕ) (w : Walk) → (w .at ≡ 0 → ⊥) → w .seen ≤ w .count → w .count < n + w .seen → walkFrom n s bytes 0 w ≡ Broken r → Tail s bytes w r
   tail zero w a m l e = absurd (omega (arith, m, l))
-  tail (suc n) w a m l e = at (tail n) (ill s bytes w n r e)
-    where
-      next : ((v : Walk) → (v .at ≡ 0 → ⊥) → v .seen ≤ v .count → v .count < n + v .seen → walkFrom n s bytes 0 v ≡ Broken r → Tail s bytes v r) → Clear s bytes 0 w (recordHere bytes 0 w)
-          → (j : Class) → rowFor (recordHere bytes 0 w) .class ≡ j → onward (walkFrom n s bytes 0) j (recordHere bytes 0 w) w (length bytes) ≡ Broken r → Tail s bytes w r
-      next ih x StartRecord q p = absurd (a (opened x q .0))
-      next ih x FormulaRecord q p =
-          let o = ordered (w .seen) (w .count) (w .next) (formulaNumber (recordHere bytes 0 w)) (moved x q .1) in
-          at-formula w x q (ih (afterFormula (recordHere bytes 0 w) w) (λ z. a (omega (arith, z))) (omega (arith, m, o .0)) (omega (arith, l)) p)
-      next ih x EndRecord q p = at-end w x q p
-      next ih x Unknown q p = absurd (known x q)
-
-      at : ((v : Walk) → (v .at ≡ 0 → ⊥) → v .seen ≤ v .count → v .count < n + v .seen → walkFrom n s bytes 0 v ≡ Broken r → Tail s bytes v r)
-          → ((faultAt s bytes 0 w ≡ 0 → ⊥) × (r ≡ refusal (w .at) (faultAt s bytes 0 w))) ⊎ ((faultAt s bytes 0 w ≡ 0) × (onward (walkFrom n s bytes 0) (rowFor (recordHere bytes 0 w) .class) (recordHere bytes 0 w) w (length bytes) ≡ Broken r)) → Tail s bytes w r
-      at ih (inl d) = at-fault w m (d .0) (d .1)
-      at ih (inr d) = next ih (clear s bytes 0 w (d .0)) (rowFor (recordHere bytes 0 w) .class) refl (d .1)
+  tail (suc n) w a m l e =
+      let b = recordHere bytes 0 w in
+      by-record s bytes 0 w n (Broken r) e (λ d q. absurd (let z : _≡_ {A = ℕ} 0 1 = cc in omega arith)) (λ f q. at-fault w m f cc) (λ x q p. absurd (a (opened x q .0)))
+      (λ x q p. at-formula w x q (tail n (afterFormula b w) (λ z. a (omega (arith, z))) (omega (arith, m, moved x q .1)) (omega (arith, l)) p))
+      (at-end w)
 
   -- ---- from the start on
   module _ (asked : ℕ) (x : Clear s bytes 0 (begin 0 asked) (bytesAt bytes 0)) (e : rowFor (bytesAt bytes 0) .class ≡ StartRecord) where
@@ -167,7 +142,7 @@ module _ (s : ℕ) (bytes : List ℕ) (r : Refusal) where
     b = bytesAt bytes 0
 
     opens : RecordOf StartRecord b × (1 ≤ countOf b) × (countOf b ≤ 64)
-    opens = let n = few b e (opened x e .1) in (record-at bytes 0 (x .frame) StartRecord e (x .size), n .0, n .1)
+    opens = let o = opened x e in (record-at bytes 0 (x .frame) StartRecord e (x .size), o .1, o .2)
 
     module _ (t : Tail s bytes (afterStart b (begin 0 asked)) r) where
       whole : bytes ≡ b ++ (inLine (t .formulas) ++ t .after)
@@ -182,7 +157,7 @@ module _ (s : ℕ) (bytes : List ℕ) (r : Refusal) where
             formulas = t .formulas;
             after = t .after;
             whole = whole;
-            scale = opened x e .2;
+            scale = opened x e .3;
             opens = opens;
             room = omega (arith, t .room);
             each = t .each;
@@ -207,7 +182,7 @@ module _ (s : ℕ) (bytes : List ℕ) (r : Refusal) where
                 ∙ sym (append-assoc b (inLine (t .formulas) ++ d .finish) (d .behind));
             shape =
                 record {
-                  scale = opened x e .2;
+                  scale = opened x e .3;
                   start = b;
                   formulas = t .formulas;
                   finish = d .finish;
@@ -231,18 +206,14 @@ module _ (s : ℕ) (bytes : List ℕ) (r : Refusal) where
 
   pub refused-at : (asked : ℕ) → walkOf s bytes 0 asked ≡ Broken r → RefusedAt s bytes r
   unfolding walkOf
-  refused-at asked e = at (ill s bytes (begin 0 asked) 65 r e)
+  refused-at asked e = by-record s bytes 0 (begin 0 asked) 65 (Broken r) e (λ d q. absurd (let z : _≡_ {A = ℕ} 0 1 = cc in omega arith)) (λ f q. first f cc) started (λ x q p. absurd (moved x q .0 refl)) (λ x q p. absurd (closed x q .0 refl))
     where
-      next : Clear s bytes 0 (begin 0 asked) (bytesAt bytes 0) → (j : Class) → rowFor (bytesAt bytes 0) .class ≡ j → onward (walkFrom 65 s bytes 0) j (bytesAt bytes 0) (begin 0 asked) (length bytes) ≡ Broken r → RefusedAt s bytes r
-      next x StartRecord q p =
+      first : (faultAt s bytes 0 (begin 0 asked) ≡ 0 → ⊥) → r ≡ refusal 0 (faultAt s bytes 0 (begin 0 asked)) → RefusedAt s bytes r
+      first f q =
+          let n = ap (λ (y : Refusal). y .number) q in
+          inl (record { place = ap (λ (y : Refusal). y .place) q; fault = there s bytes (begin 0 asked) ∙ sym n; some = λ z. f (sym n ∙ z) })
+
+      started : Clear s bytes 0 (begin 0 asked) (bytesAt bytes 0) → rowFor (bytesAt bytes 0) .class ≡ StartRecord → walkFrom 65 s bytes 0 (afterStart (bytesAt bytes 0) (begin 0 asked)) ≡ Broken r → RefusedAt s bytes r
+      started x q p =
           let o = opens asked x q in
           behind-start asked x q (tail 65 (afterStart (bytesAt bytes 0) (begin 0 asked)) (λ z. omega (arith, z, o .0 .least)) (omega arith) (omega (arith, o .2)) p)
-      next x FormulaRecord q p = absurd (moved x q .0 refl)
-      next x EndRecord q p = absurd (closed x q .0 refl)
-      next x Unknown q p = absurd (known x q)
-
-      at : ((faultAt s bytes 0 (begin 0 asked) ≡ 0 → ⊥) × (r ≡ refusal 0 (faultAt s bytes 0 (begin 0 asked)))) ⊎ ((faultAt s bytes 0 (begin 0 asked) ≡ 0) × (onward (walkFrom 65 s bytes 0) (rowFor (bytesAt bytes 0) .class) (bytesAt bytes 0) (begin 0 asked) (length bytes) ≡ Broken r)) → RefusedAt s bytes r
-      at (inl d) =
-          let n = ap (λ (y : Refusal). y .number) (d .1) in
-          inl (record { place = ap (λ (y : Refusal). y .place) (d .1); fault = there s bytes (begin 0 asked) ∙ sym n; some = λ z. d .0 (sym n ∙ z) })
-      at (inr d) = next (clear s bytes 0 (begin 0 asked) (d .0)) (rowFor (bytesAt bytes 0) .class) refl (d .1)

@@ -1,20 +1,19 @@
--- A walk that ends well, from its end backwards: the records that it went over.
-use Rattle.whole.proofs.Basics.{_≡_, _∙_, refl, sym, ap, subst, Bool, true, false, cond, _⊎_, inl, inr, List, [], _∷_, _++_, append-assoc, append-nil, ℕ, suc, zero, _+_, _-_, _≤_, arith, ltb, length, drop, eqb-true, ltb-false}
+-- A walk that ends by-record, from its end backwards: the records that it went over.
+use Rattle.whole.proofs.Basics.{_≡_, _∙_, refl, sym, ap, subst, Bool, true, false, cond, List, [], _∷_, _++_, append-assoc, append-nil, ℕ, suc, zero, _+_, _-_, _≤_, arith, ltb, length, drop, eqb-true, ltb-false}
 use native.Mathlib.Nat.{zero-add}
 use lib.ListN.{drop-of-length-le}
-use Rattle.table.specs.declared.Class.{Class}
-use Rattle.table.specs.declared.Class.the-variants.{StartRecord, FormulaRecord, EndRecord, Unknown}
-use Rattle.layout.specs.Fields.{bytesAt, rowFor, countOf, formulaNumber}
+use Rattle.table.specs.declared.Class.the-variants.{StartRecord, FormulaRecord, EndRecord}
+use Rattle.layout.specs.Fields.{bytesAt, rowFor, countOf}
 use Rattle.layout.proofs.Cut.{length-bytesAt}
 use Rattle.faults.specs.Guard.{refusal}
 use Rattle.faults.proofs.Frames.{framed, reaches}
 use Rattle.records.specs.Sheets.{RecordOf, EachFormula, Rising, inLine, SheetOf, RunOf}
-use Rattle.walking.specs.Walking.{begin, recordHere, afterStart, afterFormula, ending, onward, runDone, faultAt, walkFrom, walkOf}
+use Rattle.walking.specs.Walking.{begin, recordHere, afterStart, afterFormula, ending, runDone, walkFrom, walkOf}
 use Rattle.walking.specs.declared.Walk.{Walk}
 use Rattle.walking.specs.declared.Walked.the-variants.{Whole, Broken}
-use Rattle.walking.proofs.Clear.{Clear, clear, opened, moved, closed, known, ordered, both-counts, well}
+use Rattle.walking.proofs.Clear.{Clear, opened, moved, closed, by-record}
 use Rattle.walking.proofs.Records.{record-at, split-at}
-use Rattle.walking.proofs.Going.{few, run-room}
+use Rattle.walking.proofs.Going.{run-room}
 
 -- how it ends: a sheet with an end record of the count, behind as many formulas; a run with its last byte
 abbrev Ends : ℕ → ℕ → ℕ → ℕ → List ℕ → Type 0
@@ -59,11 +58,10 @@ module _ (s : ℕ) (bytes : List ℕ) (from c k : ℕ) where
           }
 
   -- an end record
-  at-end : (w : Walk) → Clear s bytes from w (recordHere bytes from w) → from ≤ w .at → rowFor (recordHere bytes from w) .class ≡ EndRecord → ending w (w .at + length (recordHere bytes from w)) (length bytes) ≡ Whole c k → Tail s bytes from w c
-  at-end w x l e p =
+  at-end : (w : Walk) → from ≤ w .at → Clear s bytes from w (recordHere bytes from w) → rowFor (recordHere bytes from w) .class ≡ EndRecord → ending w (w .at + length (recordHere bytes from w)) (length bytes) ≡ Whole c k → Tail s bytes from w c
+  at-end w l x e p =
       let b = recordHere bytes from w in
       let m = closed x e in
-      let n = both-counts (w .seen) (w .count) (countOf b) (m .2) in
       let z = last w (w .at + length b) (length bytes) c k p in
       subst (λ (f : ℕ). Tail s bytes f w c) (sym (m .1))
       (record {
@@ -73,10 +71,10 @@ module _ (s : ℕ) (bytes : List ℕ) (from c k : ℕ) where
             let i : w .at - 0 ≡ w .at - from = omega (arith, m .1) in
             ap (λ (j : ℕ). drop j bytes) i ∙ split-at bytes (w .at - from) (x .frame)
             ∙ ap (λ (t : List ℕ). b ++ t) (drop-of-length-le bytes {i = w .at - from + length b} (omega (arith, z .0, m .1))) ∙ append-nil b;
-        room = omega (arith, n .0);
+        room = omega (arith, m .2);
         each = tt;
         rising = tt;
-        ends = (record-at bytes (w .at - from) (x .frame) EndRecord e (x .size), n .1 ∙ z .1, omega (arith, n .0, z .1), z .1);
+        ends = (record-at bytes (w .at - from) (x .frame) EndRecord e (x .size), m .3 ∙ z .1, omega (arith, m .2, z .1), z .1);
       })
 
   -- a formula, in front of what follows it
@@ -92,30 +90,19 @@ module _ (s : ℕ) (bytes : List ℕ) (from c k : ℕ) where
             split-at bytes (w .at - from) (x .frame)
             ∙ ap (λ (r : List ℕ). b ++ r) (sym (ap (λ (j : ℕ). drop j bytes) i) ∙ t .rest) ∙ sym (append-assoc b (inLine (t .formulas)) (t .finish));
         room = omega (arith, t .room);
-        each = (record { one = record-at bytes (w .at - from) (x .frame) FormulaRecord e (x .size); inner = m .2 }, t .each);
-        rising = (ordered (w .seen) (w .count) (w .next) (formulaNumber b) (m .1) .1, t .rising);
+        each = (record { one = record-at bytes (w .at - from) (x .frame) FormulaRecord e (x .size); inner = m .3 }, t .each);
+        rising = (m .2, t .rising);
         ends = let n : w .seen + 1 + length (t .formulas) ≡ w .seen + length (b ∷ t .formulas) = omega arith in subst (λ (j : ℕ). Ends from j (w .count) c (t .finish)) n (t .ends);
       }
 
   tail : (n : ℕ) (w : Walk) → (w .at ≡ 0 → ⊥) → from ≤ w .at → w .seen ≤ w .count → walkFrom n s bytes from w ≡ Whole c k → Tail s bytes from w c
   unfolding walkFrom
   tail zero w a l m e = absurd (let z : _≡_ {A = ℕ} 0 1 = cc in omega arith)
-  tail (suc n) w a l m e = at (tail n) (well s bytes from w n c k e)
-    where
-      next : ((v : Walk) → (v .at ≡ 0 → ⊥) → from ≤ v .at → v .seen ≤ v .count → walkFrom n s bytes from v ≡ Whole c k → Tail s bytes from v c) → Clear s bytes from w (recordHere bytes from w)
-          → (j : Class) → rowFor (recordHere bytes from w) .class ≡ j → onward (walkFrom n s bytes from) j (recordHere bytes from w) w (length bytes) ≡ Whole c k → Tail s bytes from w c
-      next ih x StartRecord q p = absurd (a (opened x q .0))
-      next ih x FormulaRecord q p =
-          let o = ordered (w .seen) (w .count) (w .next) (formulaNumber (recordHere bytes from w)) (moved x q .1) in
-          at-formula w x l q (ih (afterFormula (recordHere bytes from w) w) (λ z. a (omega (arith, z))) (omega (arith, l)) (omega (arith, m, o .0)) p)
-      next ih x EndRecord q p = at-end w x l q p
-      next ih x Unknown q p = absurd (known x q)
-
-      at : ((v : Walk) → (v .at ≡ 0 → ⊥) → from ≤ v .at → v .seen ≤ v .count → walkFrom n s bytes from v ≡ Whole c k → Tail s bytes from v c)
-          → ((runDone bytes from w ≡ true) × (w .seen ≡ c) × (w .found ≡ k)) ⊎ ((runDone bytes from w ≡ false) × (faultAt s bytes from w ≡ 0) × (onward (walkFrom n s bytes from) (rowFor (recordHere bytes from w) .class) (recordHere bytes from w) w (length bytes) ≡ Whole c k))
-          → Tail s bytes from w c
-      at ih (inl d) = run-end w m (d .0) (d .1)
-      at ih (inr d) = next ih (clear s bytes from w (d .1)) (rowFor (recordHere bytes from w) .class) refl (d .2)
+  tail (suc n) w a l m e =
+      let b = recordHere bytes from w in
+      by-record s bytes from w n (Whole c k) e (λ d q. run-end w m d cc) (λ n q. absurd (let z : _≡_ {A = ℕ} 0 1 = cc in omega arith)) (λ x q p. absurd (a (opened x q .0)))
+      (λ x q p. at-formula w x l q (tail n (afterFormula b w) (λ z. a (omega (arith, z))) (omega (arith, l)) (omega (arith, m, moved x q .1)) p))
+      (at-end w l)
 
 -- ---- of a sheet
 module _ (s : ℕ) (bytes : List ℕ) (c k asked : ℕ) where
@@ -126,17 +113,16 @@ module _ (s : ℕ) (bytes : List ℕ) (c k asked : ℕ) where
       let f = framed bytes 0 (x .frame) in
       let l = length-bytesAt bytes 0 (reaches bytes 0 f) in
       let t = tail s bytes 0 c k 65 (afterStart b (begin 0 asked)) (λ z. omega (arith, z, l, f .least)) (omega arith) (omega arith) p in
-      let n = few b e (o .1) in
       let m = t .ends .3 in
       record {
-        scale = o .2;
+        scale = o .3;
         start = b;
         formulas = t .formulas;
         finish = t .finish;
         whole =
             let i : length b ≡ length b - 0 = omega arith in
             rw (zero-add (length b)) at (split-at bytes 0 (x .frame)) ∙ ap (λ (r : List ℕ). b ++ r) (ap (λ (j : ℕ). drop j bytes) i ∙ t .rest);
-        opens = (record-at bytes 0 (x .frame) StartRecord e (x .size), m, omega (arith, n .0, m), omega (arith, n .1, m));
+        opens = (record-at bytes 0 (x .frame) StartRecord e (x .size), m, omega (arith, o .1, m), omega (arith, o .2, m));
         many = omega (arith, t .ends .2);
         each = t .each;
         rising = t .rising;
@@ -145,17 +131,10 @@ module _ (s : ℕ) (bytes : List ℕ) (c k asked : ℕ) where
 
   pub shape : walkOf s bytes 0 asked ≡ Whole c k → SheetOf s c bytes
   unfolding walkOf
-  shape e = at (well s bytes 0 (begin 0 asked) 65 c k e)
-    where
-      next : Clear s bytes 0 (begin 0 asked) (bytesAt bytes 0) → (j : Class) → rowFor (bytesAt bytes 0) .class ≡ j → onward (walkFrom 65 s bytes 0) j (bytesAt bytes 0) (begin 0 asked) (length bytes) ≡ Whole c k → SheetOf s c bytes
-      next x StartRecord q p = opening x q p
-      next x FormulaRecord q p = absurd (moved x q .0 refl)
-      next x EndRecord q p = absurd (closed x q .0 refl)
-      next x Unknown q p = absurd (known x q)
-
-      at : ((runDone bytes 0 (begin 0 asked) ≡ true) × (0 ≡ c) × (0 ≡ k)) ⊎ ((runDone bytes 0 (begin 0 asked) ≡ false) × (faultAt s bytes 0 (begin 0 asked) ≡ 0) × (onward (walkFrom 65 s bytes 0) (rowFor (bytesAt bytes 0) .class) (bytesAt bytes 0) (begin 0 asked) (length bytes) ≡ Whole c k)) → SheetOf s c bytes
-      at (inl d) = absurd (let x : _≡_ {A = ℕ} 0 1 = cc in omega arith)
-      at (inr d) = next (clear s bytes 0 (begin 0 asked) (d .1)) (rowFor (bytesAt bytes 0) .class) refl (d .2)
+  shape e =
+      by-record s bytes 0 (begin 0 asked) 65 (Whole c k) e (λ d q. absurd (let x : _≡_ {A = ℕ} 0 1 = cc in omega arith)) (λ n q. absurd (let x : _≡_ {A = ℕ} 0 1 = cc in omega arith)) opening
+      (λ x q p. absurd (moved x q .0 refl))
+      (λ x q p. absurd (closed x q .0 refl))
 
 -- ---- of a run
 pub run-shape : (s : ℕ) (bytes : List ℕ) (from c k asked : ℕ) → walkOf s bytes (suc from) asked ≡ Whole c k → RunOf s c bytes

@@ -25,9 +25,7 @@ returns-3 c = rw (named (c .before .before) (c .before .match .keys3)) (pass ref
 
 returns-4 : tie.Need-returns-4
 unfolding rowOf firstRow rows
-returns-4 c =
-    let a = c .before .before .before .before .args in
-    rw (named (c .before .before) (c .before .match .keys4)) (pass refl refl (c .root-fault .ensures ∙ no-words (a .s) (rowOf 0x0013) (now (a .b)) (a .seen) (a .count) (a .next) refl))
+returns-4 c = rw (named (c .before .before) (c .before .match .keys4)) (pass refl refl (c .root-fault .ensures ∙ no-words _ (rowOf 0x0013) _ _ _ _ refl))
 
 returns-5 : tie.Need-returns-5
 returns-5 c =

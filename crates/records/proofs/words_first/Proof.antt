@@ -4,11 +4,10 @@ use Rattle.faults.proofs.Chain.{stop, pass}
 use Rattle.records.proofs.words_first.Statement.{statement}
 use Rattle.records.proofs.words_first.Tie as tie
 
-returns : tie.Need-returns
-returns c = stop _ (c .before .words-fault .ensures) (c .if1 .taken)
-
-returns-2 : tie.Need-returns-2
-returns-2 c = pass (c .before .words-fault .ensures) (c .if1 .left) refl
-
 pub words-first-spec : {M : Type 1} → statement M
-words-first-spec = tie.close (tie.spec (λ c κs. search needs) returns returns-2)
+words-first-spec =
+    tie.close
+    (tie.spec
+    (λ c κs. search needs)
+    (λ c. stop _ (c .before .words-fault .ensures) (c .if1 .taken))
+    (λ c. pass (c .before .words-fault .ensures) (c .if1 .left) refl))

@@ -3,14 +3,11 @@ use Rattle.whole.proofs.Basics.{needs, eq-eqb, ne-eqb}
 use Rattle.walking.proofs.end_fault.Statement.{statement}
 use Rattle.walking.proofs.end_fault.Tie as tie
 
-returns : tie.Need-returns
-returns c = simp (eq-eqb _ _ (c .if1 .taken))
-
-returns-2 : tie.Need-returns-2
-returns-2 c = simp (ne-eqb _ _ (c .before .if1 .left), ne-eqb _ _ (c .if2 .taken))
-
-returns-3 : tie.Need-returns-3
-returns-3 c = rw (ne-eqb _ _ (c .before .before .if1 .left), eq-eqb _ _ (c .before .if2 .left)) (c .end-fault .ensures)
-
 pub end-fault-spec : {M : Type 1} → statement M
-end-fault-spec = tie.close (tie.spec returns returns-2 (λ c κs. search needs) returns-3)
+end-fault-spec =
+    tie.close
+    (tie.spec
+    (λ c. simp (eq-eqb _ _ (c .if1 .taken)))
+    (λ c. simp (ne-eqb _ _ (c .before .if1 .left), ne-eqb _ _ (c .if2 .taken)))
+    (λ c κs. search needs)
+    (λ c. rw (ne-eqb _ _ (c .before .before .if1 .left), eq-eqb _ _ (c .before .if2 .left)) (c .end-fault .ensures)))

@@ -3,14 +3,10 @@ use Rattle.whole.proofs.Basics.{eq-eqb, ne-eqb}
 use Rattle.walking.proofs.formula_fault.Statement.{statement}
 use Rattle.walking.proofs.formula_fault.Tie as tie
 
-returns : tie.Need-returns
-returns c = simp (eq-eqb _ _ (c .if1 .taken))
-
-formula-fault-requires : tie.Need-formula-fault-requires
-formula-fault-requires c κs = let p = c .before .before .before .pre in (p .2 (c .if1 .left), p .0, p .1)
-
-returns-2 : tie.Need-returns-2
-returns-2 c = rw (ne-eqb _ _ (c .before .if1 .left)) (c .formula-fault .ensures)
-
 pub formula-fault-spec : {M : Type 1} → statement M
-formula-fault-spec = tie.close (tie.spec returns formula-fault-requires returns-2)
+formula-fault-spec =
+    tie.close
+    (tie.spec
+    (λ c. simp (eq-eqb _ _ (c .if1 .taken)))
+    (λ c κs. let p = c .before .before .before .pre in (p .2 (c .if1 .left), p .0, p .1))
+    (λ c. rw (ne-eqb _ _ (c .before .if1 .left)) (c .formula-fault .ensures)))

@@ -10,21 +10,16 @@ named : (c : tie.After-code) {n : ℕ} → c .code .result ≡ n → codeOf (now
 named c e = sym (c .code .ensures) ∙ e
 
 returns : tie.Need-returns
-returns c =
-    let a = c .before .before .before .before .args in
-    c .start-fault .ensures ∙ at-start (a .s) (a .from) (now (a .b)) (a .w) (named (c .before .before) (c .before .match .keys1))
+returns c = c .start-fault .ensures ∙ at-start _ _ _ _ (named (c .before .before) (c .before .match .keys1))
 
 returns-2 : tie.Need-returns-2
-returns-2 c =
-    let a = c .before .before .before .before .args in
-    c .end-fault .ensures ∙ at-end (a .s) (a .from) (now (a .b)) (a .w) (named (c .before .before) (c .before .match .keys2))
+returns-2 c = c .end-fault .ensures ∙ at-end _ _ _ _ (named (c .before .before) (c .before .match .keys2))
 
 returns-3 : tie.Need-returns-3
 returns-3 c =
-    let a = c .before .before .before .before .args in
     let d = c .before .match .rest in
     let e = c .before .before .code .ensures in
-    c .formula-fault .ensures ∙ at-other (a .s) (a .from) (now (a .b)) (a .w) (λ z. d .0 .1 (e ∙ z)) (λ z. d .1 (e ∙ z))
+    c .formula-fault .ensures ∙ at-other _ _ _ _ (λ z. d .0 .1 (e ∙ z)) (λ z. d .1 (e ∙ z))
 
 pub record-fault-spec : {M : Type 1} → statement M
 record-fault-spec =

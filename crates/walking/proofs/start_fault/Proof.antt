@@ -4,14 +4,12 @@ use Rattle.faults.proofs.Chain.{stop, pass}
 use Rattle.walking.proofs.start_fault.Statement.{statement}
 use Rattle.walking.proofs.start_fault.Tie as tie
 
-returns : tie.Need-returns
-returns c = simp (ne-eqb _ _ (c .if1 .taken))
-
-returns-2 : tie.Need-returns-2
-returns-2 c = rw (eq-eqb _ _ (c .before .before .if1 .left)) (stop _ (c .before .start-fault .ensures) (c .if2 .taken))
-
-returns-3 : tie.Need-returns-3
-returns-3 c = rw (eq-eqb _ _ (c .before .before .before .if1 .left)) (pass (c .before .before .start-fault .ensures) (c .before .if2 .left) (c .scale-fault .ensures))
-
 pub start-fault-spec : {M : Type 1} → statement M
-start-fault-spec = tie.close (tie.spec returns (λ c κs. search needs) returns-2 (λ c κs. search needs) returns-3)
+start-fault-spec =
+    tie.close
+    (tie.spec
+    (λ c. simp (ne-eqb _ _ (c .if1 .taken)))
+    (λ c κs. search needs)
+    (λ c. rw (eq-eqb _ _ (c .before .before .if1 .left)) (stop _ (c .before .start-fault .ensures) (c .if2 .taken)))
+    (λ c κs. search needs)
+    (λ c. rw (eq-eqb _ _ (c .before .before .before .if1 .left)) (pass (c .before .before .start-fault .ensures) (c .before .if2 .left) (c .scale-fault .ensures))))

@@ -4,11 +4,9 @@ use Rattle.faults.proofs.Lengths.{bare-length}
 use Rattle.faults.proofs.framing.bare_fault.Statement.{statement}
 use Rattle.faults.proofs.framing.bare_fault.Tie as tie
 
-returns : tie.Need-returns
-returns c = sym (bare-length _ _ (c .before .before .pre) ∙ ap (λ (t : Bool). cond t 0 2) (ne-eqb _ _ (c .if1 .taken)))
-
-returns-2 : tie.Need-returns-2
-returns-2 c = sym (bare-length _ _ (c .before .before .pre) ∙ ap (λ (t : Bool). cond t 0 2) (eq-eqb _ _ (c .if1 .left)))
-
 pub bare-fault-spec : {M : Type 1} → statement M
-bare-fault-spec = tie.close (tie.spec returns returns-2)
+bare-fault-spec =
+    tie.close
+    (tie.spec
+    (λ c. sym (bare-length _ _ (c .before .before .pre) ∙ ap (λ (t : Bool). cond t 0 2) (ne-eqb _ _ (c .if1 .taken))))
+    (λ c. sym (bare-length _ _ (c .before .before .pre) ∙ ap (λ (t : Bool). cond t 0 2) (eq-eqb _ _ (c .if1 .left)))))

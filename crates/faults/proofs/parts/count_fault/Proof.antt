@@ -5,13 +5,12 @@ use Rattle.faults.proofs.Chain.{stop, pass}
 use Rattle.faults.proofs.parts.count_fault.Statement.{statement}
 use Rattle.faults.proofs.parts.count_fault.Tie as tie
 
-returns : tie.Need-returns
-unfolding countFault
-returns c = stop _ (c .before .outside .ensures) (c .if1 .taken)
-
-returns-2 : tie.Need-returns-2
-unfolding countFault
-returns-2 c = pass (c .before .before .before .outside .ensures) (c .before .before .if1 .left) (c .outside2 .ensures)
-
 pub count-fault-spec : {M : Type 1} → statement M
-count-fault-spec = tie.close (tie.spec (λ c κs. search needs) returns (λ c κs. search needs) returns-2)
+unfolding countFault
+count-fault-spec =
+    tie.close
+    (tie.spec
+    (λ c κs. search needs)
+    (λ c. stop _ (c .before .outside .ensures) (c .if1 .taken))
+    (λ c κs. search needs)
+    (λ c. pass (c .before .before .before .outside .ensures) (c .before .before .if1 .left) (c .outside2 .ensures)))

@@ -4,11 +4,9 @@ use Rattle.faults.proofs.Values.{no-word}
 use Rattle.faults.proofs.parts.word_fault.Statement.{statement}
 use Rattle.faults.proofs.parts.word_fault.Tie as tie
 
-returns : tie.Need-returns
-returns c = let f = c .before .fits .x in simp (sym (no-word _ f) ∙ rw (toZ-ofZ f) at (c .if1 .taken))
-
-returns-2 : tie.Need-returns-2
-returns-2 c = let f = c .before .fits .x in simp (sym (no-word _ f) ∙ rw (toZ-ofZ f) at (c .if1 .left))
-
 pub word-fault-spec : {M : Type 1} → statement M
-word-fault-spec = tie.close (tie.spec returns returns-2)
+word-fault-spec =
+    tie.close
+    (tie.spec
+    (λ c. let f = c .before .fits .x in simp (sym (no-word _ f) ∙ rw (toZ-ofZ f) at (c .if1 .taken)))
+    (λ c. let f = c .before .fits .x in simp (sym (no-word _ f) ∙ rw (toZ-ofZ f) at (c .if1 .left))))
