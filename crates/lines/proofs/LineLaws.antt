@@ -26,21 +26,16 @@ Ahead s (suc n) bytes place = FormulaStands s bytes place × Ahead s n bytes (pl
 
 pub here : (s n : ℕ) (bytes : List ℕ) (place : ℕ) → 0 < n → Ahead s n bytes place → FormulaStands s bytes place × Ahead s (n - 1) bytes (place + number4 bytes place)
 here s zero bytes place h a = absurd (omega arith)
-here s (suc n) bytes place h a =
-    let e : suc n - 1 ≡ n = omega arith in
-    rw e a
+here s (suc n) bytes place h a = let e : suc n - 1 ≡ n = omega arith in rw e a
 
 pub one-line : (n : ℕ) (bytes : List ℕ) (place : ℕ) → 0 < n → linesFrom n bytes place ≡ lineOf (formulaAt bytes place) ++ linesFrom (n - 1) bytes (place + number4 bytes place)
 unfolding linesFrom
 one-line zero bytes place h = absurd (omega arith)
-one-line (suc n) bytes place h =
-    let e : suc n - 1 ≡ n = omega arith in
-    rw e refl
+one-line (suc n) bytes place h = let e : suc n - 1 ≡ n = omega arith in rw e
 
 pub no-line : (n : ℕ) (bytes : List ℕ) (place : ℕ) → n ≡ 0 → linesFrom n bytes place ≡ []
 unfolding linesFrom
-no-line zero bytes place e = refl
-no-line (suc n) bytes place e = absurd (omega (arith, e))
+no-line n bytes place e = rw e
 
 -- the record at a place has number, lo and hi
 pub long : (s : ℕ) (bytes : List ℕ) (place : ℕ) → FormulaStands s bytes place → 16 ≤ length (bytesAt bytes place)
