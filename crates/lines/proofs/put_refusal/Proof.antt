@@ -13,33 +13,21 @@ twenty : (c : tie.Start) → length (decimal (c .args .r .place)) ≤ 20
 twenty c = short 19 (c .args .r .place) (search needs)
 
 put-decimal-requires : tie.Need-put-decimal-requires
-put-decimal-requires c κs =
-    let t = c .before .before .before .before in
-    let s = t .before .before .before .before in
-    omega (arith, three s)
+put-decimal-requires c κs = omega (arith, three (c .before .before .before .before .before .before .before .before))
 
 put-text-requires-2 : tie.Need-put-text-requires-2
-put-text-requires-2 c κs =
-    let d = c .before .before .before .before in
-    let t = d .before .before .before .before .before in
-    let s = t .before .before .before .before in
-    omega (arith, three s)
+put-text-requires-2 c κs = omega (arith, three (c .before .before .before .before .before .before .before .before .before .before .before .before .before))
 
 put-decimal-requires-2 : tie.Need-put-decimal-requires-2
 put-decimal-requires-2 c κs =
-    let u = c .before .before .before in
-    let d = u .before .before .before .before .before in
-    let t = d .before .before .before .before .before in
-    let s = t .before .before .before .before in
+    let s = c .before .before .before .before .before .before .before .before .before .before .before .before .before .before .before .before .before in
     omega (arith, three s, twenty s)
 
 put-text-requires-3 : tie.Need-put-text-requires-3
 put-text-requires-3 c κs =
     let e = c .before .before .before .before in
-    let u = e .before .before .before .before in
-    let d = u .before .before .before .before .before in
-    let t = d .before .before .before .before .before in
-    let s = t .before .before .before .before in
+    let d = e .before .before .before .before .before .before .before .before .before in
+    let s = d .before .before .before .before .before .before .before .before .before in
     omega (arith, three s, twenty s)
 
 returns : tie.Need-returns
