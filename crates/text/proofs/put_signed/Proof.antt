@@ -1,5 +1,5 @@
 -- `text::put_signed` meets its contract: the sign, then the digits of the size.
-use Rattle.whole.proofs.Basics.{_≡_, _≤_, _<_, arith, length, natAbs, toZ-ofZ, needs}
+use Rattle.whole.proofs.Basics.{_≡_, _≤_, arith, length, natAbs, toZ-ofZ, needs}
 use Rattle.text.specs.Text.{decimal}
 use Rattle.text.proofs.TextLaws.{behind, short, negative, not-negative}
 use Rattle.text.proofs.put_signed.Statement.{statement}
