@@ -1,6 +1,6 @@
 -- `word::heron` meets its contract. The invariant, of w = less + 1: its size leaves room for the sum, and the root is not above it.
 use Rattle.whole.proofs.Basics.{_≡_, sym, subst, ℕ, suc, zero, _+_, _-_, _*_, _/_, _^_, _≤_, _<_, arith}
-use native.Mathlib.Nat.{div-add-mod, div-le-self}
+use native.Mathlib.Nat.{div-le-self}
 use native.Mathlib.Decide.{decLe}
 use lib.Count.{leadingZeros, leading-le, leading-length}
 use lib.Pow.{pow-pos, pow-mono}
@@ -42,7 +42,7 @@ few v h =
     by m f (no g) = omega arith
 
 exponent-most : (v : ℕ) → v < 2 ^ 60 → (digits v + 1) / 2 ≤ 30
-exponent-most v h = omega (arith, few v h .1, div-add-mod (digits v + 1) 2)
+exponent-most v h = omega (arith, few v h .1)
 
 first : (v : ℕ) → v < 2 ^ 60 → Above v (start v)
 first v h = (
