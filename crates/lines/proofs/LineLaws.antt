@@ -71,16 +71,11 @@ module _ (s c : ℕ) (bytes : List ℕ) (h : SheetOf s c bytes) where
       let l = ap length (h .whole) ∙ length-append (h .start) (inLine (h .formulas) ++ h .finish) in
       record { number = omega (arith, l, h .opens .0 .least); whole = omega (arith, l, first) }
 
-  in-order : Ahead s c bytes (number4 bytes 0) × (linesFrom c bytes (number4 bytes 0) ≡ linesOf (h .formulas))
+  -- from there on the formulas stand ahead, and their lines are the sheet's
+  pub in-order : Ahead s c bytes (number4 bytes 0) × (linesFrom c bytes (number4 bytes 0) ≡ linesOf (h .formulas))
   in-order =
       subst (λ (n : ℕ). Ahead s n bytes (number4 bytes 0) × (linesFrom n bytes (number4 bytes 0) ≡ linesOf (h .formulas))) (h .many)
       (along s (h .scale) bytes (h .finish) (h .start) (h .formulas) (number4 bytes 0) (h .each) (h .whole) first)
-
-  pub ahead : Ahead s c bytes (number4 bytes 0)
-  ahead = in-order .0
-
-  pub sheet-lines : linesFrom c bytes (number4 bytes 0) ≡ linesOf (h .formulas)
-  sheet-lines = in-order .1
 
 pub shape-of-count : (s c : ℕ) (bytes : List ℕ) → formulaCount s bytes ≡ Count c → SheetOf s c bytes
 shape-of-count s c bytes e = subst (λ (n : ℕ). SheetOf s n bytes) (ap countValue e) (accepted-shape s bytes (ap countNumber e))

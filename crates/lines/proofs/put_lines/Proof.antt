@@ -5,7 +5,7 @@ use Rattle.layout.proofs.Cut.{length-bytesAt}
 use Rattle.sheet.specs.Reader.{FormulaStands}
 use Rattle.text.proofs.TextLaws.{Left, begin, less, done}
 use Rattle.lines.specs.Listing.{places, linesFrom}
-use Rattle.lines.proofs.LineLaws.{Ahead, here, one-line, no-line, long, start-reach, ahead, shape-of-count}
+use Rattle.lines.proofs.LineLaws.{Ahead, here, one-line, no-line, long, start-reach, in-order, shape-of-count}
 use Rattle.lines.proofs.put_lines.Statement.{statement}
 use Rattle.lines.proofs.put_lines.Tie as tie
 
@@ -24,7 +24,7 @@ loop-holds c =
     let s = c .before .before .before in
     let h = shape-of-count _ _ _ (s .pre .0) in
     let n = ap length (c .record-at .ensures) ∙ length-bytesAt _ _ (start-reach _ _ _ h) in
-    rw n (refl, ahead _ _ _ h, omega arith, begin _ _ _)
+    rw n (refl, in-order _ _ _ h .0, omega arith, begin _ _ _)
 
 -- the record at the loop's place, and its length
 standing : (c : tie.In-loop Inv-loop μ-loop) → FormulaStands places (now (c .before .before .before .before .before .args .s)) (c .before .loop .place)
