@@ -1,5 +1,5 @@
 -- Runs of words, and the array that holds one.
-use Rattle.whole.proofs.Basics.{_≡_, subst, List, [], _∷_, _++_, append-assoc, ℕ, suc, _+_, _-_, _*_, _<_, arith, length, take, length-append, ℤ, pos}
+use Rattle.whole.proofs.Basics.{_≡_, List, [], _∷_, _++_, append-assoc, ℕ, suc, _+_, _-_, _*_, _<_, arith, length, take, length-append, ℤ, pos}
 use lib.ListN.{set, replicate}
 use lib.Seq.{set-append-seam, take-append-seam}
 use Rattle.stored.specs.Numbers.{word4}
@@ -22,6 +22,5 @@ padded-more l v h =
 -- a turn of the loop that reads
 pub turn : (b : List ℕ) (at i : ℕ) (a : List ℤ) (v : ℤ) → i < 32 → a ≡ padded (words b at i) → v ≡ word4 b (at + 4 * i) → set a i v ≡ padded (words b at (i + 1))
 turn b at i a v h e f =
-    let n : length (words b at i) ≡ i = length-words b at i in
-    rw (e, f, words-snoc b at i) (subst (λ (k : ℕ). set (padded (words b at i)) k (word4 b (at + 4 * i)) ≡ padded (words b at i ++ (word4 b (at + 4 * i) ∷ []))) n
-    (padded-more (words b at i) (word4 b (at + 4 * i)) (omega arith)))
+    let w = word4 b (at + 4 * i) in
+    rw (e, f, words-snoc b at i, ← padded-more (words b at i) w (omega (arith, length-words b at i)), length-words b at i)

@@ -4,7 +4,7 @@ use Rattle.records.specs.Sheets.{SheetOf}
 use Rattle.sheet.specs.declared.answers.FormulaCount.the-variants.{Count}
 use Rattle.sheet.proofs.AcceptedShape.{shape-count}
 use Rattle.lines.specs.Listing.{places, linesOf, countLine, listing}
-use Rattle.lines.proofs.LineLaws.{sheet-lines, not-too-long}
+use Rattle.lines.proofs.LineLaws.{in-order, not-too-long}
 
 pub each-line : (c : ℕ) (bytes : List ℕ) (h : SheetOf places c bytes) → length bytes ≤ 8192 → listing bytes ≡ countLine c ++ linesOf (h .formulas)
-each-line c bytes h n = not-too-long bytes (Count c) n (shape-count places c bytes h) ∙ ap (λ (t : List ℕ). countLine c ++ t) (sheet-lines places c bytes h)
+each-line c bytes h n = not-too-long bytes (Count c) n (shape-count places c bytes h) ∙ ap (λ (t : List ℕ). countLine c ++ t) (in-order places c bytes h .1)

@@ -26,21 +26,16 @@ Ahead s (suc n) bytes place = FormulaStands s bytes place × Ahead s n bytes (pl
 
 pub here : (s n : ℕ) (bytes : List ℕ) (place : ℕ) → 0 < n → Ahead s n bytes place → FormulaStands s bytes place × Ahead s (n - 1) bytes (place + number4 bytes place)
 here s zero bytes place h a = absurd (omega arith)
-here s (suc n) bytes place h a =
-    let e : suc n - 1 ≡ n = omega arith in
-    rw e a
+here s (suc n) bytes place h a = let e : suc n - 1 ≡ n = omega arith in rw e a
 
 pub one-line : (n : ℕ) (bytes : List ℕ) (place : ℕ) → 0 < n → linesFrom n bytes place ≡ lineOf (formulaAt bytes place) ++ linesFrom (n - 1) bytes (place + number4 bytes place)
 unfolding linesFrom
 one-line zero bytes place h = absurd (omega arith)
-one-line (suc n) bytes place h =
-    let e : suc n - 1 ≡ n = omega arith in
-    rw e refl
+one-line (suc n) bytes place h = let e : suc n - 1 ≡ n = omega arith in rw e
 
 pub no-line : (n : ℕ) (bytes : List ℕ) (place : ℕ) → n ≡ 0 → linesFrom n bytes place ≡ []
 unfolding linesFrom
-no-line zero bytes place e = refl
-no-line (suc n) bytes place e = absurd (omega (arith, e))
+no-line n bytes place e = rw e
 
 -- the record at a place has number, lo and hi
 pub long : (s : ℕ) (bytes : List ℕ) (place : ℕ) → FormulaStands s bytes place → 16 ≤ length (bytesAt bytes place)
@@ -76,16 +71,11 @@ module _ (s c : ℕ) (bytes : List ℕ) (h : SheetOf s c bytes) where
       let l = ap length (h .whole) ∙ length-append (h .start) (inLine (h .formulas) ++ h .finish) in
       record { number = omega (arith, l, h .opens .0 .least); whole = omega (arith, l, first) }
 
-  in-order : Ahead s c bytes (number4 bytes 0) × (linesFrom c bytes (number4 bytes 0) ≡ linesOf (h .formulas))
+  -- from there on the formulas stand ahead, and their lines are the sheet's
+  pub in-order : Ahead s c bytes (number4 bytes 0) × (linesFrom c bytes (number4 bytes 0) ≡ linesOf (h .formulas))
   in-order =
       subst (λ (n : ℕ). Ahead s n bytes (number4 bytes 0) × (linesFrom n bytes (number4 bytes 0) ≡ linesOf (h .formulas))) (h .many)
       (along s (h .scale) bytes (h .finish) (h .start) (h .formulas) (number4 bytes 0) (h .each) (h .whole) first)
-
-  pub ahead : Ahead s c bytes (number4 bytes 0)
-  ahead = in-order .0
-
-  pub sheet-lines : linesFrom c bytes (number4 bytes 0) ≡ linesOf (h .formulas)
-  sheet-lines = in-order .1
 
 pub shape-of-count : (s c : ℕ) (bytes : List ℕ) → formulaCount s bytes ≡ Count c → SheetOf s c bytes
 shape-of-count s c bytes e = subst (λ (n : ℕ). SheetOf s n bytes) (ap countValue e) (accepted-shape s bytes (ap countNumber e))

@@ -35,21 +35,16 @@ pub record Tidy (r : Row) (f : Formula) : Type 0 where
 module _ (n code number : ℕ) (t : List ℕ) where
   pub size-back : n < 4294967296 → number4 (frontBytes n code number ++ t) 0 ≡ n
   unfolding frontBytes
-  size-back h =
-      let e : frontBytes n code number ++ t ≡ [] ++ (bytes4 n ++ (bytes2 code ++ (bytes2 number ++ t))) = simp append-assoc in
-      rw e (number4-at [] _ n 0 h refl)
+  size-back h = simp append-assoc (number4-at [] _ n 0 h refl)
 
   pub code-back : code < 65536 → number2 (frontBytes n code number ++ t) 4 ≡ code
   unfolding frontBytes
-  code-back h =
-      let e : frontBytes n code number ++ t ≡ bytes4 n ++ (bytes2 code ++ (bytes2 number ++ t)) = simp append-assoc in
-      rw e (number2-at (bytes4 n) _ code 4 h (simp length-bytes4))
+  code-back h = simp append-assoc (number2-at (bytes4 n) _ code 4 h (simp length-bytes4))
 
   pub number-back : number < 65536 → number2 (frontBytes n code number ++ t) 6 ≡ number
   unfolding frontBytes
   number-back h =
-      let e : frontBytes n code number ++ t ≡ (bytes4 n ++ bytes2 code) ++ (bytes2 number ++ t) = append-assoc (bytes4 n ++ bytes2 code) (bytes2 number) t in
-      rw e (number2-at (bytes4 n ++ bytes2 code) _ number 6 h (simp (length-append, length-bytes4, length-bytes2)))
+      rw (append-assoc (bytes4 n ++ bytes2 code) (bytes2 number) t) (number2-at (bytes4 n ++ bytes2 code) _ number 6 h (simp (length-append, length-bytes4, length-bytes2)))
 
 -- ---- the head: lo and hi behind the front
 
@@ -96,24 +91,24 @@ words-back a t (z ∷ zs) k f e =
 -- ---- the record
 
 module _ (r : Row) (f : Formula) (d : Tidy r f) where
-  head : List ℕ
+  abbrev head : List ℕ
   head = headBytes (lengthBy r (f .shape .p) (f .shape .q)) (r .code) (f .number) (f .lo) (f .hi)
 
-  tail : List ℕ
+  abbrev tail : List ℕ
   tail = wordBytes (wordsIn f)
 
-  mode-bytes : List ℕ
+  abbrev mode-bytes : List ℕ
   mode-bytes = fieldBytes (r .mode) (f .shape .mode)
 
-  p-bytes : List ℕ
+  abbrev p-bytes : List ℕ
   p-bytes = fieldBytes (r .p) (f .shape .p)
 
-  q-bytes : List ℕ
+  abbrev q-bytes : List ℕ
   q-bytes = fieldBytes (r .q) (f .shape .q)
 
   -- the bytes, cut before the mode, the first count, the second count
   at-mode : recordBytes r f ≡ head ++ (mode-bytes ++ (p-bytes ++ (q-bytes ++ tail)))
-  unfolding recordBytes fieldsBytes head tail mode-bytes p-bytes q-bytes
+  unfolding recordBytes fieldsBytes
   at-mode = simp append-assoc
 
   at-p : recordBytes r f ≡ (head ++ mode-bytes) ++ (p-bytes ++ (q-bytes ++ tail))
@@ -123,23 +118,18 @@ module _ (r : Row) (f : Formula) (d : Tidy r f) where
   at-q = at-p ∙ sym (append-assoc (head ++ mode-bytes) p-bytes (q-bytes ++ tail))
 
   long-head : length head ≡ 16
-  unfolding head
   long-head = length-head _ _ _ _ _
 
   long-mode : length (head ++ mode-bytes) ≡ 16 + fieldSize (r .mode)
-  unfolding mode-bytes
   long-mode = omega (arith, length-append head mode-bytes, long-head, length-field (r .mode) (f .shape .mode))
 
   long-p : length ((head ++ mode-bytes) ++ p-bytes) ≡ 16 + fieldSize (r .mode) + fieldSize (r .p)
-  unfolding p-bytes
   long-p = omega (arith, length-append (head ++ mode-bytes) p-bytes, long-mode, length-field (r .p) (f .shape .p))
 
   mode-back : fieldOf (r .mode) (recordBytes r f) ≡ f .shape .mode
-  unfolding mode-bytes
   mode-back = rw at-mode (field-back (r .mode) (f .shape .mode) head _ (subst (Stands (r .mode)) (sym long-head) (d .ready .ordered .mode)) (d .mode .0) (d .mode .1))
 
   q-back : fieldOf (r .q) (recordBytes r f) ≡ f .shape .q
-  unfolding q-bytes
   q-back =
       rw at-q
       (field-back (r .q) (f .shape .q) ((head ++ mode-bytes) ++ p-bytes) tail (subst (Stands (r .q)) (sym long-p) (d .ready .ordered .q))
@@ -147,7 +137,7 @@ module _ (r : Row) (f : Formula) (d : Tidy r f) where
 
   -- a first count that is not stored is the number of words
   p-back : firstCount r (recordBytes r f) ≡ f .shape .p
-  unfolding firstCount p-bytes
+  unfolding firstCount
   p-back = at (eqb (r .p .at) 0) refl
     where
       at : (t : Bool) → eqb (r .p .at) 0 ≡ t → cond t ((length (recordBytes r f) - r .head) / 4) (number2 (recordBytes r f) (r .p .at)) ≡ f .shape .p
@@ -164,11 +154,10 @@ module _ (r : Row) (f : Formula) (d : Tidy r f) where
   shape-again = λ i. shape (sym (d .ready .kind) i) (p-back i) (q-back i) (mode-back i)
 
   at-words : recordBytes r f ≡ (head ++ fieldsBytes r (f .shape)) ++ (tail ++ [])
-  unfolding recordBytes head tail
+  unfolding recordBytes
   at-words = rw (append-nil tail)
 
   pub words-again : wordsOf r (recordBytes r f) ≡ wordsIn f
-  unfolding tail
   words-again =
       let a = head ++ fieldsBytes r (f .shape) in
       let l : r .head ≡ length a = omega (arith, length-append head (fieldsBytes r (f .shape)), long-head, length-fields r (f .shape) (d .ready .ordered)) in
@@ -180,25 +169,22 @@ module _ (r : Row) (f : Formula) (d : Tidy r f) where
 
   -- the front's and the head's numbers stand before everything else
   at-head : recordBytes r f ≡ head ++ (fieldsBytes r (f .shape) ++ tail)
-  unfolding recordBytes head tail
+  unfolding recordBytes
   at-head = append-assoc head (fieldsBytes r (f .shape)) tail
 
-  rest : List ℕ
+  abbrev rest : List ℕ
   rest = (bytes4 (pattern (f .lo)) ++ (bytes4 (pattern (f .hi)) ++ (fieldsBytes r (f .shape) ++ tail)))
 
   at-start : recordBytes r f ≡ frontBytes (lengthBy r (f .shape .p) (f .shape .q)) (r .code) (f .number) ++ rest
-  unfolding head rest
   at-start = at-head ∙ at-front _ _ _ _ _ _
 
   pub number-again : formulaNumber (recordBytes r f) ≡ f .number
   number-again = rw at-start (number-back _ _ _ _ (d .number))
 
   pub lo-again : loOf (recordBytes r f) ≡ f .lo
-  unfolding head
   lo-again = rw at-head (lo-back _ _ _ _ _ _ (d .lo))
 
   pub hi-again : hiOf (recordBytes r f) ≡ f .hi
-  unfolding head
   hi-again = rw at-head (hi-back _ _ _ _ _ _ (d .hi))
 
   pub formula-back : formulaOf r (recordBytes r f) ≡ f

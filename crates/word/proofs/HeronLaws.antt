@@ -9,11 +9,6 @@ abbrev pub heron : ℕ → ℕ → ℕ
 heron v w = (w + v / w) / 2
 
 -- ---- a step
-twice : (v w : ℕ) → 0 < w → (2 * heron v w ≤ w + v / w) × (w + v / w < 2 * heron v w + 2)
-twice v w h =
-    let two : 0 < 2 = omega arith in
-    (omega (arith, div-add-mod (w + v / w) 2), omega (arith, div-add-mod (w + v / w) 2, mod-lt (w + v / w) two))
-
 part : (v w : ℕ) → 0 < w → (w * (v / w) ≤ v) × (v < w * (v / w) + w)
 part v w h = (omega (arith, div-add-mod v w), omega (arith, div-add-mod v w, mod-lt v h))
 
@@ -32,7 +27,7 @@ squares a b = by (decLe a b)
 pub not-below : (v w : ℕ) → 0 < w → v < (heron v w + 1) * (heron v w + 1)
 not-below v w h =
     let m = heron v w + 1 in
-    let f : w + v / w + 1 ≤ m + m = omega (arith, twice v w h) in
+    let f : w + v / w + 1 ≤ m + m = omega arith in
     omega (arith, part v w h, squares w m, mul-le-mul-left w f)
 
 -- it is below the old where the old's square is above v
@@ -41,7 +36,7 @@ falls v zero h = absurd (omega arith)
 falls v (suc w) h =
     let p : 0 < suc w = omega arith in
     let q = lt-of-mul-lt-mul-left (suc w) {m = v / suc w} {n = suc w} (omega (arith, part v (suc w) p)) in
-    omega (arith, twice v (suc w) p)
+    omega arith
 
 -- so where it is not below the old, the old's square is not above v
 pub heron-ended : (v w : ℕ) → w ≤ heron v w → w * w ≤ v
@@ -55,6 +50,5 @@ heron-ended v w h = by (decLe (w * w) v)
 pub start-above : (v m : ℕ) → v < 2 ^ m → v < 2 ^ ((m + 1) / 2) * 2 ^ ((m + 1) / 2)
 start-above v m h =
     let k = (m + 1) / 2 in
-    let two : 0 < 2 = omega arith in
-    let f : m ≤ k + k = omega (arith, div-add-mod (m + 1) 2, mod-lt (m + 1) two) in
+    let f : m ≤ k + k = omega arith in
     omega (arith, pow-mono {i = m} {j = k + k} f, pow-add 2 k k)

@@ -1,6 +1,6 @@
 -- The laws of the root: its two inequalities, which each digit of the definition keeps, that they determine it, and that it is the largest.
 use Rattle.whole.proofs.Basics.{_≡_, refl, Bool, true, false, cond, ℕ, suc, zero, _+_, _*_, _/_, _^_, _≤_, _<_, arith, leb, ℤ, natAbs}
-use native.Mathlib.Nat.{mul-le-mul, div-add-mod, mod-lt}
+use native.Mathlib.Nat.{mul-le-mul}
 use native.Mathlib.Decide.{decLe}
 use borrow.Author.Tests.{leb-true, leb-false}
 use Rattle.word.specs.Words.{Word, Rootable, unit}
@@ -21,16 +21,11 @@ digit-is : (b : Bool) (v r d : ℕ) → leb ((r + r + 1) * (r + r + 1)) v ≡ b 
 digit-is true v r d e f g h = record { low = leb-true ((r + r + 1) * (r + r + 1)) v e; high = omega (arith, h .high) }
 digit-is false v r d e f g h = record { low = omega (arith, h .low); high = leb-false ((r + r + 1) * (r + r + 1)) v e }
 
-four : (n : ℕ) → (4 * (n / 4) ≤ n) × (n < 4 * (n / 4) + 4)
-four n =
-    let h : 0 < 4 = omega arith in
-    (omega (arith, div-add-mod n 4), omega (arith, div-add-mod n 4, mod-lt n h))
-
 root-in : (k v : ℕ) → v ≤ k → RootOf v (rootIn k v)
 unfolding rootIn
 root-in zero v h = let e : v ≡ 0 = omega arith in record { low = omega arith; high = omega arith }
 root-in (suc k) zero h = record { low = omega arith; high = omega arith }
-root-in (suc k) (suc n) h = digit-is (leb ((rootIn k (suc n / 4) + rootIn k (suc n / 4) + 1) * (rootIn k (suc n / 4) + rootIn k (suc n / 4) + 1)) (suc n)) (suc n) (rootIn k (suc n / 4)) (suc n / 4) refl (four (suc n) .0) (four (suc n) .1) (root-in k (suc n / 4) (omega (arith, four (suc n))))
+root-in (suc k) (suc n) h = digit-is (leb ((rootIn k (suc n / 4) + rootIn k (suc n / 4) + 1) * (rootIn k (suc n / 4) + rootIn k (suc n / 4) + 1)) (suc n)) (suc n) (rootIn k (suc n / 4)) (suc n / 4) refl (omega arith) (omega arith) (root-in k (suc n / 4) (omega arith))
 
 pub root-of : (v : ℕ) → RootOf v (rootOf v)
 root-of v = root-in v v (omega arith)

@@ -10,10 +10,6 @@ use Rattle.whole.proofs.Order.{abs-add}
 use Rattle.word.specs.Rounded.{lifted, rounded, roundedUp}
 
 -- ---- rounded up
-pub up-as : (a d : ℕ) → (a + (d - 1)) / d ≡ roundedUp a d
-unfolding roundedUp
-up-as a d = refl
-
 pub up-above : (a d : ℕ) → 0 < d → a ≤ roundedUp a d * d
 unfolding roundedUp
 up-above a d h = omega (arith, div-add-mod (a + (d - 1)) d, mod-lt (a + (d - 1)) h)

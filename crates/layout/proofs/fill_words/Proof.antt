@@ -17,27 +17,6 @@ loop-holds : tie.Need-loop-holds Inv-loop μ-loop
 unfolding words
 loop-holds c = (search needs, search needs)
 
-mul-get-word : tie.Need-mul-get-word Inv-loop μ-loop
-mul-get-word c = search needs
-
-add-get-word : tie.Need-add-get-word Inv-loop μ-loop
-add-get-word c = search needs
-
-get-word-requires : tie.Need-get-word-requires Inv-loop μ-loop
-get-word-requires c κs = search needs
-
-mul-t10 : tie.Need-mul-t10 Inv-loop μ-loop
-mul-t10 c = search needs
-
-element-set-from-out : tie.Need-element-set-from-out Inv-loop μ-loop
-element-set-from-out c = search needs
-
-add-i : tie.Need-add-i Inv-loop μ-loop
-add-i c = search needs
-
-loop-less : tie.Need-loop-less Inv-loop μ-loop
-loop-less c = search needs
-
 loop-again : tie.Need-loop-again Inv-loop μ-loop
 loop-again c =
     let l = c .before .before in
@@ -55,12 +34,12 @@ fill-words-spec =
     Inv-loop
     μ-loop
     loop-holds
-    mul-get-word
-    add-get-word
-    get-word-requires
-    mul-t10
-    element-set-from-out
-    add-i
-    loop-less
+    (λ c. search needs)
+    (λ c. search needs)
+    (λ c κs. search needs)
+    (λ c. search needs)
+    (λ c. search needs)
+    (λ c. search needs)
+    (λ c. search needs)
     loop-again
     returns)

@@ -1,25 +1,15 @@
 -- `list_sheet` meets its contract: by the input's length, then by the reader's answer; each text is put at the front, and has room there.
-use Rattle.whole.proofs.Basics.{_≡_, _∙_, sym, arith, length, now, needs}
+use Rattle.whole.proofs.Basics.{_∙_, sym, arith, now, needs}
 use Rattle.text.proofs.TextLaws.{behind, front}
 use Rattle.lines.proofs.LineLaws.{shape-of-count, too-long, not-too-long}
 use Rattle.lines.proofs.list_sheet.Statement.{statement}
 use Rattle.lines.proofs.list_sheet.Tie as tie
 
--- lent as a slice, the array says its length
-room-long : (c : tie.After-put-text-arg) → 4096 ≡ length (now (c .before .before .before .args .out))
-room-long c = search needs
-
-room-count : (c : tie.After-put-count-arg) → 4096 ≡ length (now (c .before .before .before .before .before .before .before .args .out))
-room-count c = search needs
-
-room-refusal : (c : tie.After-put-refusal-arg) → 4096 ≡ length (now (c .before .before .before .before .before .before .before .args .out))
-room-refusal c = search needs
-
 returns : tie.Need-returns
 returns c =
     let i = c .before .before .before in
     let s = i .before .before in
-    front (too-long (now (s .args .s)) (i .if1 .taken)) (c .put-text .ensures) (omega (arith, c .put-text .ensures .end)) (room-long (c .before .before))
+    front (too-long (now (s .args .s)) (i .if1 .taken)) (c .put-text .ensures) (omega arith) (search needs)
 
 put-lines-requires : tie.Need-put-lines-requires
 put-lines-requires c κs =
@@ -29,7 +19,7 @@ put-lines-requires c κs =
     let s = f .before .before .before in
     let e = sym (f .formula-count .ensures) ∙ k .count .given .1 in
     let h = shape-of-count _ _ (now (s .args .s)) e in
-    (e, omega (arith, h .opens .3, n .put-count .ensures .1, n .put-count .kept .0, room-count (n .before)))
+    (e, omega (arith, h .opens .3))
 
 returns-2 : tie.Need-returns-2
 returns-2 c =
@@ -41,7 +31,7 @@ returns-2 c =
     let e = sym (f .formula-count .ensures) ∙ k .count .given .1 in
     let h = shape-of-count _ _ (now (s .args .s)) e in
     front (not-too-long (now (s .args .s)) _ (i .if1 .left) e) (behind (n .put-count .ensures .0) (c .put-lines .ensures .0))
-    (omega (arith, h .opens .3, n .put-count .ensures .1, c .put-lines .ensures .1)) (room-count (n .before))
+    (omega (arith, h .opens .3)) (search needs)
 
 returns-3 : tie.Need-returns-3
 returns-3 c =
@@ -50,7 +40,7 @@ returns-3 c =
     let i = f .before in
     let s = i .before .before in
     let e = sym (f .formula-count .ensures) ∙ k .r .given .1 in
-    front (not-too-long (now (s .args .s)) _ (i .if1 .left) e) (c .put-refusal .ensures .0) (omega (arith, c .put-refusal .ensures .1)) (room-refusal (c .before))
+    front (not-too-long (now (s .args .s)) _ (i .if1 .left) e) (c .put-refusal .ensures .0) (omega arith) (search needs)
 
 pub list-sheet-spec : {M : Type 1} → statement M
 list-sheet-spec =

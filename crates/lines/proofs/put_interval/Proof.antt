@@ -15,7 +15,7 @@ returns c =
     let low = rw (toZ-ofZ (s .fits .lo)) at (lo .put-signed .ensures) in
     let high = rw (toZ-ofZ (s .fits .hi)) at (hi .put-signed2 .ensures) in (
       behind (behind (behind (behind (first .put-text .ensures) (low .0)) (space .put-text2 .ensures)) (high .0)) (feed .put-text3 .ensures),
-      omega (arith, first .put-text .ensures .end, low .1, space .put-text2 .ensures .end, high .1, feed .put-text3 .ensures .end),
+      omega arith,
     )
 
 pub put-interval-spec : {M : Type 1} → statement M

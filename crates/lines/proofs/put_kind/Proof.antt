@@ -5,24 +5,16 @@ use Rattle.lines.proofs.put_kind.Statement.{statement}
 use Rattle.lines.proofs.put_kind.Tie as tie
 
 returns : tie.Need-returns
-returns c =
-    let t = c .before .before in
-    (rw (t .before .before .before .enum-told .given .1) (t .put-text .ensures), omega (arith, t .put-text .ensures .end))
+returns c = (rw (c .before .before .before .before .before .enum-told .given .1) (c .before .before .put-text .ensures), omega arith)
 
 returns-2 : tie.Need-returns-2
-returns-2 c =
-    let t = c .before .before in
-    (rw (t .before .before .before .enum-told2 .given .1) (t .put-text2 .ensures), omega (arith, t .put-text2 .ensures .end))
+returns-2 c = (rw (c .before .before .before .before .before .enum-told2 .given .1) (c .before .before .put-text2 .ensures), omega arith)
 
 returns-3 : tie.Need-returns-3
-returns-3 c =
-    let t = c .before .before in
-    (rw (t .before .before .before .enum-told3 .given .1) (t .put-text3 .ensures), omega (arith, t .put-text3 .ensures .end))
+returns-3 c = (rw (c .before .before .before .before .before .enum-told3 .given .1) (c .before .before .put-text3 .ensures), omega arith)
 
 returns-4 : tie.Need-returns-4
-returns-4 c =
-    let t = c .before .before in
-    (rw (t .before .before .before .enum-told4 .given .1) (t .put-text4 .ensures), omega (arith, t .put-text4 .ensures .end))
+returns-4 c = (rw (c .before .before .before .before .before .enum-told4 .given .1) (c .before .before .put-text4 .ensures), omega arith)
 
 returns-5 : tie.Need-returns-5
 returns-5 c = (rw (c .enum-told5 .given .1) (done (begin _ _ _)), omega arith)

@@ -1,5 +1,5 @@
 -- `put_line` meets its contract: number, kind name and interval one behind the other, each by the record's own field.
-use Rattle.whole.proofs.Basics.{_≤_, _<_, arith, length, w32, SFits, toZ-ofZ, needs}
+use Rattle.whole.proofs.Basics.{_≤_, arith, length, w32, SFits, toZ-ofZ, needs}
 use Rattle.layout.specs.Fields.{formulaOf, shapeOf}
 use Rattle.text.specs.Text.{decimal}
 use Rattle.text.proofs.TextLaws.{behind, short}
@@ -8,48 +8,25 @@ use Rattle.lines.proofs.put_line.Statement.{statement}
 use Rattle.lines.proofs.put_line.Tie as tie
 
 five : (c : tie.After-number) → length (decimal (c .number .result)) ≤ 5
-five c =
-    let h : c .number .result < 65536 = search needs in
-    short 4 (c .number .result) (omega (arith, h))
+five c = short 4 (c .number .result) (search needs)
 
 put-decimal-requires : tie.Need-put-decimal-requires
-put-decimal-requires c κs =
-    let s = c .before .before .before .before .before .before in
-    omega (arith, five c, s .pre .0)
+put-decimal-requires c κs = omega (arith, five c)
 
 put-text-requires : tie.Need-put-text-requires
-put-text-requires c κs =
-    let d = c .before .before .before .before in
-    let n = d .before in
-    let s = n .before .before .before .before .before .before in
-    omega (arith, five n, d .put-decimal .ensures .end, d .put-decimal .kept .0, s .pre .0)
+put-text-requires c κs = omega (arith, five (c .before .before .before .before .before))
 
 put-kind-requires : tie.Need-put-kind-requires
 put-kind-requires c κs =
     let t = c .before .before .before in
-    let d = t .before .before .before .before .before in
-    let n = d .before in
-    let s = n .before .before .before .before .before .before in
-    omega (arith, five n, d .put-decimal .ensures .end, d .put-decimal .kept .0, t .put-text .ensures .end, t .put-text .kept .0, s .pre .0)
+    omega (arith, five (t .before .before .before .before .before .before))
 
 put-interval-requires : tie.Need-put-interval-requires
 put-interval-requires c κs =
     let k = c .before .before .before .before .before in
     let t = k .before .before .before .before in
-    let d = t .before .before .before .before .before in
-    let n = d .before in
-    let s = n .before .before .before .before .before .before in
-    omega (
-      arith,
-      five n,
-      d .put-decimal .ensures .end,
-      d .put-decimal .kept .0,
-      t .put-text .ensures .end,
-      t .put-text .kept .0,
-      k .put-kind .ensures .1,
-      k .put-kind .kept .0,
-      s .pre .0,
-    )
+    let n = t .before .before .before .before .before .before in
+    omega (arith, five n, n .before .before .before .before .before .before .pre .0)
 
 returns : tie.Need-returns
 unfolding lineOf formulaOf shapeOf
@@ -68,7 +45,7 @@ returns c =
     let g : SFits w32 (hi .hi .result) = record { sfits = hi .hi .ok } in
     let ends = rw (toZ-ofZ f, toZ-ofZ g, lo .lo .ensures, hi .hi .ensures) at (i .put-interval .ensures .0) in (
       behind (behind (behind number (t .put-text .ensures)) kind) ends,
-      omega (arith, five n, d .put-decimal .ensures .end, t .put-text .ensures .end, k .put-kind .ensures .1, i .put-interval .ensures .1),
+      omega (arith, five n),
     )
 
 pub put-line-spec : {M : Type 1} → statement M

@@ -5,7 +5,7 @@ use Rattle.layout.proofs.Cut.{length-bytesAt}
 use Rattle.sheet.specs.Reader.{FormulaStands}
 use Rattle.text.proofs.TextLaws.{Left, begin, less, done}
 use Rattle.lines.specs.Listing.{places, linesFrom}
-use Rattle.lines.proofs.LineLaws.{Ahead, here, one-line, no-line, long, start-reach, ahead, shape-of-count}
+use Rattle.lines.proofs.LineLaws.{Ahead, here, one-line, no-line, long, start-reach, in-order, shape-of-count}
 use Rattle.lines.proofs.put_lines.Statement.{statement}
 use Rattle.lines.proofs.put_lines.Tie as tie
 
@@ -24,7 +24,7 @@ loop-holds c =
     let s = c .before .before .before in
     let h = shape-of-count _ _ _ (s .pre .0) in
     let n = ap length (c .record-at .ensures) ∙ length-bytesAt _ _ (start-reach _ _ _ h) in
-    rw n (refl, ahead _ _ _ h, omega arith, begin _ _ _)
+    rw n (refl, in-order _ _ _ h .0, omega arith, begin _ _ _)
 
 -- the record at the loop's place, and its length
 standing : (c : tie.In-loop Inv-loop μ-loop) → FormulaStands places (now (c .before .before .before .before .before .args .s)) (c .before .loop .place)
@@ -32,9 +32,6 @@ standing c = here _ _ _ _ (c .loop-test .taken) (c .before .loop .inv .1) .0
 
 size : (c : tie.After-record-at2 Inv-loop μ-loop) → length (now (c .record-at2 .result)) ≡ number4 (now (c .before .before .before .before .before .before .args .s)) (c .before .before .loop .place)
 size c = ap length (c .record-at2 .ensures) ∙ length-bytesAt _ _ (standing (c .before) .reach)
-
-record-at-requires-2 : tie.Need-record-at-requires-2 Inv-loop μ-loop
-record-at-requires-2 c κs = standing c .reach
 
 put-line-requires : tie.Need-put-line-requires Inv-loop μ-loop
 put-line-requires c κs =
@@ -52,12 +49,6 @@ add-place c =
     let s = b .before .before .before .before .before .before in
     record { fits = omega (arith, standing (b .before) .reach .whole, size b, s .good .1 .0) }
 
-sub-left : tie.Need-sub-left Inv-loop μ-loop
-sub-left c = search needs
-
-loop-less : tie.Need-loop-less Inv-loop μ-loop
-loop-less c = search needs
-
 loop-again : tie.Need-loop-again Inv-loop μ-loop
 loop-again c =
     let p = c .before .before in
@@ -73,9 +64,6 @@ loop-again c =
       omega (arith, l .loop .inv .2, p .put-line .ensures .1, i .loop-test .taken),
       less rest line,
     )
-
-same-length : tie.Need-same-length Inv-loop μ-loop
-same-length c = c .before .loop .inv .0
 
 returns : tie.Need-returns Inv-loop μ-loop
 returns c =
@@ -94,11 +82,11 @@ put-lines-spec =
     μ-loop
     record-at-requires
     loop-holds
-    record-at-requires-2
+    (λ c κs. standing c .reach)
     put-line-requires
     add-place
-    sub-left
-    loop-less
+    (λ c. search needs)
+    (λ c. search needs)
     loop-again
-    same-length
+    (λ c. c .before .loop .inv .0)
     returns)

@@ -1,5 +1,5 @@
 -- `put_refusal` meets its contract: five texts one behind the other; a number has at most 3 digits, a place at most 20.
-use Rattle.whole.proofs.Basics.{_≤_, _<_, arith, length, needs}
+use Rattle.whole.proofs.Basics.{_≤_, arith, length, needs}
 use Rattle.text.specs.Text.{decimal}
 use Rattle.text.proofs.TextLaws.{behind, short}
 use Rattle.lines.specs.Listing.{refusalLine}
@@ -7,68 +7,28 @@ use Rattle.lines.proofs.put_refusal.Statement.{statement}
 use Rattle.lines.proofs.put_refusal.Tie as tie
 
 three : (c : tie.Start) → length (decimal (c .args .r .number)) ≤ 3
-three c =
-    let h : c .args .r .number < 256 = search needs in
-    short 2 (c .args .r .number) (omega (arith, h))
+three c = short 2 (c .args .r .number) (search needs)
 
 twenty : (c : tie.Start) → length (decimal (c .args .r .place)) ≤ 20
-twenty c =
-    let h : c .args .r .place < 18446744073709551616 = search needs in
-    short 19 (c .args .r .place) (omega (arith, h))
+twenty c = short 19 (c .args .r .place) (search needs)
 
 put-decimal-requires : tie.Need-put-decimal-requires
-put-decimal-requires c κs =
-    let t = c .before .before .before .before in
-    let s = t .before .before .before .before in
-    omega (arith, three s, t .put-text .ensures .end, t .put-text .kept .0, s .pre)
+put-decimal-requires c κs = omega (arith, three (c .before .before .before .before .before .before .before .before))
 
 put-text-requires-2 : tie.Need-put-text-requires-2
-put-text-requires-2 c κs =
-    let d = c .before .before .before .before in
-    let t = d .before .before .before .before .before in
-    let s = t .before .before .before .before in
-    omega (arith, three s, t .put-text .ensures .end, t .put-text .kept .0, d .put-decimal .ensures .end, d .put-decimal .kept .0, s .pre)
+put-text-requires-2 c κs = omega (arith, three (c .before .before .before .before .before .before .before .before .before .before .before .before .before))
 
 put-decimal-requires-2 : tie.Need-put-decimal-requires-2
 put-decimal-requires-2 c κs =
-    let u = c .before .before .before in
-    let d = u .before .before .before .before .before in
-    let t = d .before .before .before .before .before in
-    let s = t .before .before .before .before in
-    omega (
-      arith,
-      three s,
-      twenty s,
-      t .put-text .ensures .end,
-      t .put-text .kept .0,
-      d .put-decimal .ensures .end,
-      d .put-decimal .kept .0,
-      u .put-text2 .ensures .end,
-      u .put-text2 .kept .0,
-      s .pre,
-    )
+    let s = c .before .before .before .before .before .before .before .before .before .before .before .before .before .before .before .before .before in
+    omega (arith, three s, twenty s)
 
 put-text-requires-3 : tie.Need-put-text-requires-3
 put-text-requires-3 c κs =
     let e = c .before .before .before .before in
-    let u = e .before .before .before .before in
-    let d = u .before .before .before .before .before in
-    let t = d .before .before .before .before .before in
-    let s = t .before .before .before .before in
-    omega (
-      arith,
-      three s,
-      twenty s,
-      t .put-text .ensures .end,
-      t .put-text .kept .0,
-      d .put-decimal .ensures .end,
-      d .put-decimal .kept .0,
-      u .put-text2 .ensures .end,
-      u .put-text2 .kept .0,
-      e .put-decimal2 .ensures .end,
-      e .put-decimal2 .kept .0,
-      s .pre,
-    )
+    let d = e .before .before .before .before .before .before .before .before .before in
+    let s = d .before .before .before .before .before .before .before .before .before in
+    omega (arith, three s, twenty s)
 
 returns : tie.Need-returns
 unfolding refusalLine
@@ -80,16 +40,7 @@ returns c =
     let t = d .before .before .before .before .before in
     let s = t .before .before .before .before in (
       behind (behind (behind (behind (t .put-text .ensures) (d .put-decimal .ensures)) (u .put-text2 .ensures)) (e .put-decimal2 .ensures)) (feed .put-text3 .ensures),
-      omega (
-        arith,
-        three s,
-        twenty s,
-        t .put-text .ensures .end,
-        d .put-decimal .ensures .end,
-        u .put-text2 .ensures .end,
-        e .put-decimal2 .ensures .end,
-        feed .put-text3 .ensures .end,
-      ),
+      omega (arith, three s, twenty s),
     )
 
 pub put-refusal-spec : {M : Type 1} → statement M

@@ -35,16 +35,7 @@ put-words-requires c κs =
     let m = l .before in
     let s = m .before in
     let far : s .args .row .head + 4 * m .pieces-by .result ≤ length (f .put-fields .last .0) =
-    omega (
-      arith,
-      room (h .before .before .before),
-      reach (s .args .row) (s .args .shape) (given s) (s .pre .0) (s .pre .1),
-      m .pieces-by .ensures .0,
-      l .length-by .ensures .0,
-      l .length-by .ensures .1,
-      f .put-fields .kept .0,
-      h .put-head .kept .0,
-    ) in
+    omega (arith, room (h .before .before .before), reach (s .args .row) (s .args .shape) (given s) (s .pre .0) (s .pre .1), m .pieces-by .ensures .0) in
     (omega (arith, long s, m .pieces-by .ensures .1), far)
 
 returns : tie.Need-returns

@@ -4,11 +4,8 @@ use Rattle.stored.specs.Numbers.{number2}
 use Rattle.stored.proofs.get2.Statement.{statement}
 use Rattle.stored.proofs.get2.Tie as tie
 
-returns : tie.Need-returns
-unfolding number2
-returns c = search needs
-
 pub get2-spec : {M : Type 1} → statement M
+unfolding number2
 get2-spec =
     tie.close
     (tie.spec
@@ -20,4 +17,4 @@ get2-spec =
     (λ c. search needs)
     (λ c. search needs)
     (λ c. search needs)
-    returns)
+    (λ c. search needs))

@@ -4,11 +4,8 @@ use Rattle.stored.specs.Numbers.{number4}
 use Rattle.stored.proofs.get4.Statement.{statement}
 use Rattle.stored.proofs.get4.Tie as tie
 
-returns : tie.Need-returns
-unfolding number4
-returns c = search needs
-
 pub get4-spec : {M : Type 1} → statement M
+unfolding number4
 get4-spec =
     tie.close
     (tie.spec
@@ -29,4 +26,4 @@ get4-spec =
     (λ c κs. search needs)
     (λ c. search needs)
     (λ c. search needs)
-    returns)
+    (λ c. search needs))

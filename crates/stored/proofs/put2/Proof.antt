@@ -6,14 +6,8 @@ use Rattle.stored.specs.Numbers.{bytes2}
 use Rattle.stored.proofs.put2.Statement.{statement}
 use Rattle.stored.proofs.put2.Tie as tie
 
-slice-write-out-2 : tie.Need-slice-write-out-2
-slice-write-out-2 c = simp length-set (omega arith)
-
-returns : tie.Need-returns
-unfolding bytes2
-returns c = simp towards-suc
-
 pub put2-spec : {M : Type 1} → statement M
+unfolding bytes2
 put2-spec =
     tie.close
-    (tie.spec (λ c. search needs) (λ c. search needs) (λ c. search needs) (λ c. search needs) slice-write-out-2 (λ c. search needs) returns)
+    (tie.spec (λ c. search needs) (λ c. search needs) (λ c. search needs) (λ c. search needs) (λ c. simp length-set (omega arith)) (λ c. search needs) (λ c. simp towards-suc))

@@ -6,20 +6,8 @@ use Rattle.stored.specs.Numbers.{bytes4}
 use Rattle.stored.proofs.put4.Statement.{statement}
 use Rattle.stored.proofs.put4.Tie as tie
 
-slice-write-out-2 : tie.Need-slice-write-out-2
-slice-write-out-2 c = simp length-set (omega arith)
-
-slice-write-out-3 : tie.Need-slice-write-out-3
-slice-write-out-3 c = simp length-set (omega arith)
-
-slice-write-out-4 : tie.Need-slice-write-out-4
-slice-write-out-4 c = simp length-set (omega arith)
-
-returns : tie.Need-returns
-unfolding bytes4
-returns c = simp towards-suc
-
 pub put4-spec : {M : Type 1} → statement M
+unfolding bytes4
 put4-spec =
     tie.close
     (tie.spec
@@ -27,12 +15,12 @@ put4-spec =
     (λ c. search needs)
     (λ c. search needs)
     (λ c. search needs)
-    slice-write-out-2
+    (λ c. simp length-set (omega arith))
     (λ c. search needs)
     (λ c. search needs)
-    slice-write-out-3
+    (λ c. simp length-set (omega arith))
     (λ c. search needs)
     (λ c. search needs)
-    slice-write-out-4
+    (λ c. simp length-set (omega arith))
     (λ c. search needs)
-    returns)
+    (λ c. simp towards-suc))

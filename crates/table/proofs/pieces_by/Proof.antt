@@ -9,21 +9,16 @@ all : (c : tie.Start) → c .args .row .base + c .args .row .p .each * c .args .
 unfolding piecesBy
 all c = few (c .args .row) (c .args .p) (c .args .q) (c .pre .0) (c .pre .1 .0) (c .pre .1 .1)
 
-mul-result : tie.Need-mul-result
-mul-result c = omega (arith, all (c .before))
-
-add-result : tie.Need-add-result
-add-result c = omega (arith, all (c .before .before))
-
-mul-result-2 : tie.Need-mul-result-2
-mul-result-2 c = omega (arith, all (c .before .before .before))
-
-add-result-2 : tie.Need-add-result-2
-add-result-2 c = omega (arith, all (c .before .before .before))
-
 returns : tie.Need-returns
 unfolding piecesBy
 returns c = (refl, all (c .before .before .before))
 
 pub pieces-by-spec : {M : Type 1} → statement M
-pieces-by-spec = tie.close (tie.spec mul-result add-result mul-result-2 add-result-2 returns)
+pieces-by-spec =
+    tie.close
+    (tie.spec
+    (λ c. omega (arith, all (c .before)))
+    (λ c. omega (arith, all (c .before .before)))
+    (λ c. omega (arith, all (c .before .before .before)))
+    (λ c. omega (arith, all (c .before .before .before)))
+    returns)

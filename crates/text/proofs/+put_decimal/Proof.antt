@@ -20,22 +20,10 @@ abbrev below : ℕ → In 1 put-decimal-kinds.ps
 below m = and 1 put-decimal-kinds.ps (falls 1 put-decimal-kinds.ps _<_ μ m) put-decimal.Pre
 
 module _ (m : ℕ) where
-  cast-out : lts.Need-cast-out (below m, put-decimal.Post) (at m) put-decimal.Post
-  cast-out c = search needs
-
-  add-out : lts.Need-add-out (below m, put-decimal.Post) (at m) put-decimal.Post
-  add-out c = search needs
-
   slice-write-out : lts.Need-slice-write-out (below m, put-decimal.Post) (at m) put-decimal.Post
   slice-write-out c =
       let s = c .before .before in
       omega (arith, s .pre .1, one-long (s .args .n) (c .if1 .taken))
-
-  add-result : lts.Need-add-result (below m, put-decimal.Post) (at m) put-decimal.Post
-  add-result c = search needs
-
-  same-length : lts.Need-same-length (below m, put-decimal.Post) (at m) put-decimal.Post
-  same-length c = simp length-set
 
   returns : lts.Need-returns (below m, put-decimal.Post) (at m) put-decimal.Post
   returns c =
@@ -47,12 +35,6 @@ module _ (m : ℕ) where
       let i = c .before in
       let s = i .before .before in
       (omega (arith, s .pre .0, i .if1 .left), omega (arith, s .pre .1, one-longer (s .args .n) (i .if1 .left) (s .fits .n .fits)))
-
-  cast-out-2 : lts.Need-cast-out-2 (below m, put-decimal.Post) (at m) put-decimal.Post
-  cast-out-2 c = search needs
-
-  add-out-2 : lts.Need-add-out-2 (below m, put-decimal.Post) (at m) put-decimal.Post
-  add-out-2 c = search needs
 
   slice-write-out-2 : lts.Need-slice-write-out-2 (below m, put-decimal.Post) (at m) put-decimal.Post
   slice-write-out-2 c =
@@ -81,15 +63,15 @@ module _ (m : ℕ) where
 pub +put-decimal-spec : {M : Type 1} → statement M
 +put-decimal-spec =
     close μ λ m. lts.spec (below m, put-decimal.Post) (at m) put-decimal.Post
-    (cast-out m)
-    (add-out m)
+    (λ c. search needs)
+    (λ c. search needs)
     (slice-write-out m)
-    (add-result m)
-    (same-length m)
+    (λ c. search needs)
+    (λ c. simp length-set)
     (returns m)
     (put-decimal-requires m)
-    (cast-out-2 m)
-    (add-out-2 m)
+    (λ c. search needs)
+    (λ c. search needs)
     (slice-write-out-2 m)
     (add-result-2 m)
     (same-length-2 m)

@@ -1,5 +1,5 @@
 -- `text::put_signed` meets its contract: the sign, then the digits of the size.
-use Rattle.whole.proofs.Basics.{_≡_, _≤_, _<_, arith, length, natAbs, toZ-ofZ, needs}
+use Rattle.whole.proofs.Basics.{_≡_, _≤_, arith, length, natAbs, toZ-ofZ, needs}
 use Rattle.text.specs.Text.{decimal}
 use Rattle.text.proofs.TextLaws.{behind, short, negative, not-negative}
 use Rattle.text.proofs.put_signed.Statement.{statement}
@@ -10,15 +10,12 @@ module _ (c : tie.After-magnitude) where
   size = rw (toZ-ofZ (c .before .before .fits .x)) at (c .magnitude .ensures)
 
   ten : length (decimal (c .magnitude .result)) ≤ 10
-  ten =
-      let h : c .magnitude .result < 4294967296 = search needs in
-      short 9 (c .magnitude .result) (omega (arith, h))
+  ten = short 9 (c .magnitude .result) (search needs)
 
 put-decimal-requires : tie.Need-put-decimal-requires
 put-decimal-requires c κs =
     let t = c .before .before .before in
-    let m = t .before .before .before .before in
-    omega (arith, ten m, t .put-text .ensures .end, t .put-text .kept .0, m .before .before .pre)
+    omega (arith, ten (t .before .before .before .before))
 
 returns : tie.Need-returns
 returns c =
@@ -28,13 +25,11 @@ returns c =
     let m = i .before in
     let s = m .before .before in (
       rw (negative (s .args .x) (rw (toZ-ofZ (s .fits .x)) at (i .if1 .taken)), ← size m) (behind (t .put-text .ensures) (d .put-decimal .ensures)),
-      omega (arith, ten m, t .put-text .ensures .end, d .put-decimal .ensures .end),
+      omega (arith, ten m),
     )
 
 put-decimal-requires-2 : tie.Need-put-decimal-requires-2
-put-decimal-requires-2 c κs =
-    let m = c .before .before in
-    omega (arith, ten m, m .before .before .pre)
+put-decimal-requires-2 c κs = omega (arith, ten (c .before .before))
 
 returns-2 : tie.Need-returns-2
 returns-2 c =
@@ -43,7 +38,7 @@ returns-2 c =
     let m = i .before in
     let s = m .before .before in (
       rw (not-negative (s .args .x) (rw (toZ-ofZ (s .fits .x)) at (i .if1 .left)), ← size m) (d .put-decimal2 .ensures),
-      omega (arith, ten m, d .put-decimal2 .ensures .end),
+      omega (arith, ten m),
     )
 
 pub put-signed-spec : {M : Type 1} → statement M

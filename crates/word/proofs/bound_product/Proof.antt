@@ -1,12 +1,12 @@
 -- `word::bound_product` meets its contract: the product is not below 0, and the sum that rounds it up fits.
-use Rattle.whole.proofs.Basics.{_∙_, ap₂, ℕ, _+_, _-_, _*_, _/_, _^_, _≤_, arith, pos, _*ℤ_, w64, needs}
+use Rattle.whole.proofs.Basics.{_∙_, ap₂, _-_, _*_, _≤_, arith, pos, _*ℤ_, w64, needs}
 use native.Mathlib.Nat.{mul-le-mul}
 use lib.Pow.{pow-pos, pow-mono}
 use Rattle.whole.proofs.Diff.{n}
 use Rattle.whole.proofs.Fit.{fit}
 use Rattle.whole.proofs.Held.{Held, held, held-nat, cast-nat, arg, known}
 use Rattle.whole.proofs.Order.{pos-le}
-use Rattle.word.proofs.RoundedLaws.{up-as}
+use Rattle.word.specs.Rounded.{roundedUp}
 use Rattle.word.proofs.bound_product.Statement.{statement}
 use Rattle.word.proofs.bound_product.Tie as tie
 
@@ -42,9 +42,8 @@ add-result c =
     record { fits = omega (arith, held-nat (held-n (c .before)), n-most d, c .power-of-two .ensures, pow-mono {i = d .args .s} {j = 28} (d .pre .0 .most)) }
 
 returns : tie.Need-returns
-returns c =
-    let d = c .before .before in
-    ap₂ (λ (k u : ℕ). (k + (u - 1)) / 2 ^ d .args .s) (held-nat (held-n (c .before))) (c .power-of-two .ensures) ∙ up-as (d .args .a * d .args .b) (2 ^ d .args .s)
+unfolding roundedUp
+returns c = rw (held-nat (held-n (c .before)), c .power-of-two .ensures)
 
 pub bound-product-spec : {M : Type 1} → statement M
 bound-product-spec =

@@ -1,6 +1,6 @@
 -- `word::bound_quotient` meets its contract: the sum that rounds the quotient up fits.
-use Rattle.whole.proofs.Basics.{_∙_, ap, ℕ, _+_, _-_, _*_, _/_, _^_, arith, needs}
-use Rattle.word.proofs.RoundedLaws.{up-as}
+use Rattle.whole.proofs.Basics.{_-_, arith, needs}
+use Rattle.word.specs.Rounded.{roundedUp}
 use Rattle.word.proofs.WordLaws.{scaled-most}
 use Rattle.word.proofs.bound_quotient.Statement.{statement}
 use Rattle.word.proofs.bound_quotient.Tie as tie
@@ -11,9 +11,8 @@ add-result c =
     record { fits = omega (arith, c .scaled .ensures, scaled-most (d .args .a) (d .args .s) (d .fits .a .fits) (d .pre .0 .most), d .fits .d .fits) }
 
 returns : tie.Need-returns
-returns c =
-    let a = c .before .args in
-    ap (λ (k : ℕ). (k + (a .d - 1)) / a .d) (c .scaled .ensures) ∙ up-as (a .a * 2 ^ a .s) (a .d)
+unfolding roundedUp
+returns c = rw (c .scaled .ensures)
 
 pub bound-quotient-spec : {M : Type 1} → statement M
 bound-quotient-spec =

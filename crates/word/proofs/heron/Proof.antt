@@ -1,6 +1,6 @@
 -- `word::heron` meets its contract. The invariant, of w = less + 1: its size leaves room for the sum, and the root is not above it.
 use Rattle.whole.proofs.Basics.{_≡_, sym, subst, ℕ, suc, zero, _+_, _-_, _*_, _/_, _^_, _≤_, _<_, arith}
-use native.Mathlib.Nat.{div-add-mod, div-le-self}
+use native.Mathlib.Nat.{div-le-self}
 use native.Mathlib.Decide.{decLe}
 use lib.Count.{leadingZeros, leading-le, leading-length}
 use lib.Pow.{pow-pos, pow-mono}
@@ -42,7 +42,7 @@ few v h =
     by m f (no g) = omega arith
 
 exponent-most : (v : ℕ) → v < 2 ^ 60 → (digits v + 1) / 2 ≤ 30
-exponent-most v h = omega (arith, few v h .1, div-add-mod (digits v + 1) 2)
+exponent-most v h = omega (arith, few v h .1)
 
 first : (v : ℕ) → v < 2 ^ 60 → Above v (start v)
 first v h = (
@@ -63,38 +63,20 @@ next v w p i h = (positive (heron v w) (not-below v w (i .0)), omega (arith, i .
 returns : tie.Need-returns Inv-loop μ-loop
 returns c = root-is (c .before .args .v) 0 (omega arith) (omega (arith, c .if1 .taken))
 
-sub-b : tie.Need-sub-b Inv-loop μ-loop
-sub-b c = leading-le 64 (c .before .args .v)
-
-add-power-of-two : tie.Need-add-power-of-two Inv-loop μ-loop
-add-power-of-two c = record { fits = omega arith }
-
 power-of-two-requires : tie.Need-power-of-two-requires Inv-loop μ-loop
 power-of-two-requires c κs = omega (arith, exponent-most (c .before .args .v) (c .before .pre))
 
 started : (c : tie.After-power-of-two Inv-loop μ-loop) → Above (c .before .before .args .v) (c .power-of-two .result)
 started c = subst (Above (c .before .before .args .v)) (sym (c .power-of-two .ensures)) (first (c .before .before .args .v) (c .before .before .pre))
 
-sub-less : tie.Need-sub-less Inv-loop μ-loop
-sub-less c = started c .0
-
 loop-holds : tie.Need-loop-holds Inv-loop μ-loop
 loop-holds c = one-less (c .before .before .args .v) _ (started c)
-
-add-w : tie.Need-add-w Inv-loop μ-loop
-add-w c = record { fits = omega (arith, c .loop .inv .1) }
-
-div-next : tie.Need-div-next Inv-loop μ-loop
-div-next c = c .loop .inv .0
 
 add-next : tie.Need-add-next Inv-loop μ-loop
 add-next c = record { fits = omega (arith, c .loop .inv .1, c .before .before .before .pre, div-le-self (c .before .before .before .args .v) (c .loop .less + 1)) }
 
 again : (c : tie.Else2 Inv-loop μ-loop) → Above (c .before .before .before .before .args .v) (heron (c .before .before .before .before .args .v) (c .before .loop .less + 1))
 again c = next (c .before .before .before .before .args .v) (c .before .loop .less + 1) (omega (arith, c .before .before .before .if1 .left)) (c .before .loop .inv) (c .if2 .left)
-
-sub-less-2 : tie.Need-sub-less-2 Inv-loop μ-loop
-sub-less-2 c = again c .0
 
 loop-less : tie.Need-loop-less Inv-loop μ-loop
 loop-less c = omega (arith, c .if2 .left, again c .0)
@@ -115,15 +97,15 @@ heron-spec =
     Inv-loop
     μ-loop
     returns
-    sub-b
-    add-power-of-two
+    (λ c. leading-le 64 (c .before .args .v))
+    (λ c. record { fits = omega arith })
     power-of-two-requires
-    sub-less
+    (λ c. started c .0)
     loop-holds
-    add-w
-    div-next
+    (λ c. record { fits = omega (arith, c .loop .inv .1) })
+    (λ c. c .loop .inv .0)
     add-next
-    sub-less-2
+    (λ c. again c .0)
     loop-less
     loop-again
     returns-2)

@@ -13,11 +13,5 @@ held-sum c =
     let h = c .args .half in
     plus (arg (c .fits .n)) (arg (fit (n h) (omega (arith, c .pre .1)))) (fit (v m ⊕ n h) (omega (arith, c .pre .1, near-out (v m) (2 ^ 62) (omega (arith, c .pre .0)))))
 
-add-result : tie.Need-add-result
-add-result c = fits-code (held-sum c)
-
-returns : tie.Need-returns
-returns c = held (held-sum c)
-
 pub lifted-spec : {M : Type 1} → statement M
-lifted-spec = tie.close (tie.spec (λ c. search needs) add-result returns)
+lifted-spec = tie.close (tie.spec (λ c. search needs) (λ c. fits-code (held-sum c)) (λ c. held (held-sum c)))

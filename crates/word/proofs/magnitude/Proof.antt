@@ -15,9 +15,6 @@ module _ (c : tie.Start) where
   held-neg : Held w64 (pos 0 -ℤ back w64 (back w32 (c .args .x))) (negℤ (c .args .x))
   held-neg = negated held-x (fit (⊖ v (c .args .x)) (omega (arith, fit-out (v (c .args .x)) (c .fits .x))))
 
-cast-result : tie.Need-cast-result
-cast-result c = fits-code (held-x (c .before))
-
 sub-result : tie.Need-sub-result
 sub-result c = fits-code (held-neg (c .before))
 
@@ -35,9 +32,6 @@ cast-result-3 c =
 returns : tie.Need-returns
 returns c = held-nat (held-neg (c .before)) ∙ abs-neg (c .before .args .x)
 
-returns-2 : tie.Need-returns-2
-returns-2 c = search needs
-
 pub magnitude-spec : {M : Type 1} → statement M
 magnitude-spec =
-    tie.close (tie.spec cast-result sub-result cast-result-2 cast-result-3 returns returns-2)
+    tie.close (tie.spec (λ c. fits-code (held-x (c .before))) sub-result cast-result-2 cast-result-3 returns (λ c. search needs))

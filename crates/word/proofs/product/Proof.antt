@@ -20,12 +20,6 @@ n-is c =
     ∙ c .times .ensures
     ∙ ap₂ _*ℤ_ (held (held-a (c .before))) (held (held-b (c .before)))
 
-cast-times : tie.Need-cast-times
-cast-times c = fits-code (held-a c)
-
-cast-times-2 : tie.Need-cast-times-2
-cast-times-2 c = fits-code (held-b c)
-
 times-requires : tie.Need-times-requires
 times-requires c κs = (omega (arith, held-nat (held-a c), c .pre .1), omega (arith, held-nat (held-b c), c .pre .2))
 
@@ -41,4 +35,4 @@ returns c =
     ∙ ap (λ (z : ℤ). rounded z (2 ^ c .before .before .args .s)) (n-is (c .before))
 
 pub product-spec : {M : Type 1} → statement M
-product-spec = tie.close (tie.spec cast-times cast-times-2 times-requires rounded-shift-requires returns)
+product-spec = tie.close (tie.spec (λ c. fits-code (held-a c)) (λ c. fits-code (held-b c)) times-requires rounded-shift-requires returns)

@@ -42,9 +42,6 @@ kept-is c =
     ap (λ (t : Bool). withSign t (m s)) (sym (below-no (d s) (tested-ge (arg (s .fits .d)) (lit (pos 0) tt) (c .if1 .left))))
 
 -- ---- the needs
-cast-m : tie.Need-cast-m
-cast-m c = fits-code (held-a c)
-
 with-sign-requires : tie.Need-with-sign-requires
 with-sign-requires c κs = omega (arith, ap natAbs (m-is (c .before)), m-most (c .before))
 
@@ -83,7 +80,7 @@ pub quotient-spec : {M : Type 1} → statement M
 quotient-spec =
     tie.close
     (tie.spec
-    cast-m
+    (λ c. fits-code (held-a c))
     (λ c. search needs)
     (λ c. search needs)
     with-sign-requires

@@ -29,17 +29,8 @@ module _ (c : tie.After-heron) where
 cast-scaled : tie.Need-cast-scaled
 cast-scaled c = cast-nat (arg (c .fits .x)) (c .pre .2) (omega (arith, c .pre .1))
 
-scaled-requires : tie.Need-scaled-requires
-scaled-requires c κs = c .pre .0
-
-heron-requires : tie.Need-heron-requires
-heron-requires c κs = omega (arith, v-is c, v-most (c .before))
-
-cast-result : tie.Need-cast-result
-cast-result c = answer-fits c
-
 returns : tie.Need-returns
 returns c = held (arg (answer-fits c)) ∙ ap pos (answer-is c)
 
 pub root-spec : {M : Type 1} → statement M
-root-spec = tie.close (tie.spec cast-scaled scaled-requires heron-requires cast-result returns)
+root-spec = tie.close (tie.spec cast-scaled (λ c κs. c .pre .0) (λ c κs. omega (arith, v-is c, v-most (c .before))) (λ c. answer-fits c) returns)

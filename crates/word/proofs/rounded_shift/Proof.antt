@@ -12,20 +12,17 @@ use Rattle.word.proofs.rounded_shift.Tie as tie
 halved : (cut : ℕ) → 0 < cut → 2 * 2 ^ (cut - 1) ≡ 2 ^ cut
 halved cut h = sym (pow-succ' 2 (cut - 1)) ∙ ap (λ (k : ℕ). 2 ^ k) (omega arith)
 
-half-is : (c : tie.After-power-of-two) → c .power-of-two .result ≡ 2 ^ (c .before .args .cut - 1)
-half-is c = c .power-of-two .ensures
-
 lifted-requires : tie.Need-lifted-requires
 lifted-requires c κs =
     let d = c .before in
-    (omega (arith, held-nat (arg (d .fits .n)), d .pre .0), omega (arith, half-is c, pow-lt {i = d .args .cut - 1} {j = 62} (omega (arith, d .pre .2))))
+    (omega (arith, held-nat (arg (d .fits .n)), d .pre .0), omega (arith, c .power-of-two .ensures, pow-lt {i = d .args .cut - 1} {j = 62} (omega (arith, d .pre .2))))
 
 returns : tie.Need-returns
 returns c =
     let d = c .before .before in
     let cut = d .args .cut in
     held (shr (2 ^ cut) (given {w = w64} {x = c .lifted .result} (c .lifted .ok)))
-    ∙ ap (λ (z : ℤ). shrZ z (2 ^ cut)) (c .lifted .ensures ∙ ap₂ lifted (held (arg (d .fits .n))) (half-is (c .before)))
+    ∙ ap (λ (z : ℤ). shrZ z (2 ^ cut)) (c .lifted .ensures ∙ ap₂ lifted (held (arg (d .fits .n))) (c .before .power-of-two .ensures))
     ∙ shifted-is (d .args .n) (2 ^ (cut - 1)) (2 ^ cut) (pow-pos cut) (halved cut (d .pre .1))
 
 pub rounded-shift-spec : {M : Type 1} → statement M

@@ -14,11 +14,5 @@ held-product c =
     let most : natAbs b ≤ 4294967295 = omega (arith, c .pre .1) in
     times (arg (c .fits .a)) (arg (c .fits .b)) (fit-abs (omega (arith, abs-mul a b, mul-le-mul (c .pre .0) most)))
 
-mul-result : tie.Need-mul-result
-mul-result c = fits-code (held-product c)
-
-returns : tie.Need-returns
-returns c = held (held-product c)
-
 pub times-spec : {M : Type 1} → statement M
-times-spec = tie.close (tie.spec mul-result returns)
+times-spec = tie.close (tie.spec (λ c. fits-code (held-product c)) (λ c. held (held-product c)))

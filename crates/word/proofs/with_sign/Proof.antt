@@ -10,9 +10,6 @@ use Rattle.word.proofs.with_sign.Tie as tie
 held-neg : (c : tie.Start) → Held w64 (pos 0 -ℤ back w64 (c .args .m)) (negℤ (c .args .m))
 held-neg c = negated (arg (c .fits .m)) (fit-abs (omega (arith, abs-neg (c .args .m), c .pre)))
 
-sub-result : tie.Need-sub-result
-sub-result c = fits-code (held-neg (c .before))
-
 returns : tie.Need-returns
 returns c = held (held-neg (c .before)) ∙ ap (λ (t : Bool). withSign t (c .before .args .m)) (sym (c .if1 .taken))
 
@@ -20,4 +17,4 @@ returns-2 : tie.Need-returns-2
 returns-2 c = held (arg (c .before .fits .m)) ∙ ap (λ (t : Bool). withSign t (c .before .args .m)) (sym (c .if1 .left))
 
 pub with-sign-spec : {M : Type 1} → statement M
-with-sign-spec = tie.close (tie.spec sub-result returns returns-2)
+with-sign-spec = tie.close (tie.spec (λ c. fits-code (held-neg (c .before))) returns returns-2)
