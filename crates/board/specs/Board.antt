@@ -1,10 +1,10 @@
 -- Evaluation takes a whole sheet, a number and an argument: the reader's refusals, then 13, 10. The binary places are s.
 use mathlib.Core.Path.{_≡_, refl}
-use mathlib.Core.Bool.{cond}
+use mathlib.Core.Bool.{false, cond}
 use mathlib.Core.List.{List, [], _∷_}
 use Prim.Native.Nat.{ℕ}
 use lib.IntN.{ℤ, pos, negsuc}
-use lib.Ieee.{Float, binary64, ofBits}
+use lib.Ieee.{Float, nan, fin, binary64, ofBits}
 use lib.Signed.{ltZ}
 use Rattle.word.specs.Rounded.{rounded}
 use Rattle.formula.specs.declared.Kind.the-variants.{Polynomial}
@@ -143,5 +143,6 @@ unfolding answerAt horner rounded padded
 constant-ends = (refl, refl, refl, refl)
 
 -- 10 and 13 of the door; the reader's refusal comes before both
-door-refusals : (takenBy 24 constant NoWord ≡ refused 10) × (takenBy 24 constant NotFinite ≡ refused 13) × (whenGiven (Withheld (refusal 0 11)) (refused 10) ≡ refused 11)
-door-refusals = (refl, refl, refl)
+door-refusals : (takenBy 24 constant NoWord ≡ refused 10) × (takenBy 24 constant NotFinite ≡ refused 13) × (takenAt 24 constant nan ≡ refused 13) × (takenAt 24 constant (fin false 1 (pos 0)) ≡ refused 10) × (whenGiven (Withheld (refusal 0 11)) (refused 10) ≡ refused 11)
+unfolding takenOf rounded answerAt
+door-refusals = (refl, refl, refl, refl, refl)

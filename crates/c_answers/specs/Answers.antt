@@ -1,9 +1,12 @@
 -- Each answer as C is given it: refused (0, or the paper's number), place, then the values, which are 0 when refused. They are those that
 -- the answers' own crates define.
 use Prim.Native.Nat.{ℕ}
-use mathlib.Core.Path.{_≡_}
+use mathlib.Core.Path.{_≡_, refl}
+use lib.IntN.{pos}
+use lib.Ieee.{binary64, ofBits}
 use Rattle.formula.specs.declared.Formula.{Formula}
 use Rattle.door.specs.Exact.{Exactly}
+use Rattle.faults.specs.Guard.{refusal}
 use Rattle.sheet.specs.Reader.{countNumber, countPlace, countValue, foundNumber, foundPlace}
 use Rattle.sheet.specs.declared.answers.FormulaCount.{FormulaCount}
 use Rattle.sheet.specs.declared.answers.Found.{Found}
@@ -63,3 +66,10 @@ Spans s (Withheld r) f x = x ≡ spanned (NoInterval r)
 
 abbrev pub SpannedBy : ℕ → Reading → IntervalEnds → Type 0
 SpannedBy s r x = Spans s (r .found) (r .formula) x
+
+-- ---- worked examples: a refusal goes out as its number and place, with every value 0; a formula with its fields
+refused-fields : (f : Formula) → (fieldsFound (Withheld (refusal 8 1)) f ≡ record { refused = 1; place = 8; fields = noFields }) × (fieldsGiven Given f ≡ fieldsOf f)
+refused-fields f = (refl, refl)
+
+refused-word : (worked (Refused (refusal 0 10)) ≡ record { refused = 10; place = 0; word = pos 0 }) × (shown (NotShown (refusal 0 13)) ≡ record { refused = 13; place = 0; value = ofBits binary64 0 })
+refused-word = (refl, refl)

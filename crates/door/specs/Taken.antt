@@ -88,8 +88,8 @@ unfolding takenOf rounded
 under-least = refl
 
 -- a word has no refusal, and what is refused has no word
-with-word : (takenNumber (Word (pos 1)) ≡ 0) × (takenWord (Word (pos 1)) ≡ pos 1) × (takenWord NoWord ≡ pos 0) × (takenWord NotFinite ≡ pos 0)
-with-word = (refl, refl, refl, refl)
+with-word : (takenNumber (Word (pos 1)) ≡ 0) × (takenWord (Word (pos 1)) ≡ pos 1) × (takenWord NoWord ≡ pos 0) × (takenWord NotFinite ≡ pos 0) × (takenPlace NoWord ≡ 0)
+with-word = (refl, refl, refl, refl, refl)
 
 -- 2^31 steps, of either sign, and what is not finite: refused by 10 and by 13
 too-large : takenNumber (takenOf 24 (fin false 1 (pos 7))) ≡ 10

@@ -158,6 +158,11 @@ oneRoot =
     ∷ 16 ∷ 0 ∷ 0 ∷ 0 ∷ 19 ∷ 0 ∷ 5 ∷ 0 ∷ 0 ∷ 0 ∷ 0 ∷ 0 ∷ 1 ∷ 0 ∷ 0 ∷ 0
     ∷ 8 ∷ 0 ∷ 0 ∷ 0 ∷ 255 ∷ 255 ∷ 1 ∷ 0 ∷ []
 
-one-root : (formulaCount 24 oneRoot ≡ Count 1) × (formulaPlace 24 oneRoot 5 ≡ At 8) × (formulaPlace 24 oneRoot 6 ≡ Absent (refusal 0 11))
+one-root : (formulaCount 24 oneRoot ≡ Count 1) × (formulaPlace 24 oneRoot 5 ≡ At 8) × (placeValue (formulaPlace 24 oneRoot 5) ≡ 8) × (formulaPlace 24 oneRoot 6 ≡ Absent (refusal 0 11))
 unfolding formulaCount formulaPlace walkOf walkFrom faultAt foundBy ending frameFault bytesAt recordFault lengthFault sizeFault countFault outside startFault scaleFault orderFault endFault valueFault ownFault intervalFault wordsFault number2 number4 words rows firstRow rowOf firstCount fieldOf shapeOf piecesBy
-one-root = (refl, refl, refl)
+one-root = (refl, refl, refl, refl)
+
+-- a formula that is not given is no formula, and all zero
+nothing-given : noFormula ≡ formula 0 (shape NoFormula 0 0 0) (pos 0) (pos 0) (replicate 32 (pos 0))
+unfolding noFormula padded
+nothing-given = refl

@@ -1,7 +1,7 @@
 -- From a formula's kind to its code, and the rows of a start and of an end: found in the table.
 use Prim.Native.Nat.{ℕ}
 use mathlib.Core.Path.{_≡_, refl}
-use mathlib.Core.Bool.{Bool, _&&_}
+use mathlib.Core.Bool.{Bool, true, false, _&&_}
 use lib.Dec.{eqb}
 use Rattle.formula.specs.declared.Kind.{Kind}
 use Rattle.formula.specs.declared.Kind.the-variants.{Polynomial, Rational, Fraction, Root, NoFormula}
@@ -48,6 +48,11 @@ formula-codes = (refl, refl, refl, refl)
 no-formula-code : codeFor NoFormula ≡ 0
 unfolding rows firstRow codeFor
 no-formula-code = refl
+
+-- a row by its class and by its kind
+told-apart : (ofKind Root (rowOf 0x0013) ≡ true) × (ofKind Root (rowOf 0x0012) ≡ false) × (ofKind Root (rowOf 0x0001) ≡ false) × (kindTag NoFormula ≡ 0)
+unfolding rows firstRow rowOf
+told-apart = (refl, refl, refl, refl)
 
 pub the-start : rowOf 0x0001 ≡ startRow
 unfolding rows firstRow rowOf startRow

@@ -83,6 +83,11 @@ end-line : (rowOf 0xffff .class ≡ EndRecord) × (rowOf 0xffff .kind ≡ NoForm
 unfolding rows firstRow rowOf piecesBy
 end-line = (refl, refl, refl)
 
+-- the whole row of a root
+root-row : rowOf 0x0013 ≡ row 0x0013 FormulaRecord Root 16 4 0 none none none none
+unfolding rows firstRow rowOf
+root-row = refl
+
 -- unknown kinds: below, between and above the table's
 no-line : (rowOf 0x0000 .class ≡ Unknown) × (rowOf 0x0002 .class ≡ Unknown) × (rowOf 0x0014 .class ≡ Unknown) × (rowOf 0xfffe .class ≡ Unknown)
 unfolding rows firstRow rowOf

@@ -44,3 +44,7 @@ of-a-step = refl
 of-two : rootWord 24 (pos 33554432) ≡ pos 23726566
 unfolding rootIn
 of-two = refl
+
+-- a digit more to the root of 2, for 8 and for 9
+a-digit : (digitMore 8 1 ≡ 2) × (digitMore 9 1 ≡ 3)
+a-digit = (refl, refl)
