@@ -53,9 +53,6 @@ module _ (n code number : ℕ) (lo hi : ℤ) (t : List ℕ) where
   unfolding headBytes
   at-front = simp append-assoc
 
-  lo-back : SFits w32 lo → word4 (headBytes n code number lo hi ++ t) 8 ≡ lo
-  lo-back h = rw at-front (word4-at (frontBytes n code number) _ lo 8 h (simp length-front))
-
   hi-back : SFits w32 hi → word4 (headBytes n code number lo hi ++ t) 12 ≡ hi
   unfolding headBytes
   hi-back h =
@@ -182,7 +179,7 @@ module _ (r : Row) (f : Formula) (d : Tidy r f) where
   number-again = rw at-start (number-back _ _ _ _ (d .number))
 
   pub lo-again : loOf (recordBytes r f) ≡ f .lo
-  lo-again = rw at-head (lo-back _ _ _ _ _ _ (d .lo))
+  lo-again = rw at-start (word4-at (frontBytes (lengthBy r (f .shape .p) (f .shape .q)) (r .code) (f .number)) _ (f .lo) 8 (d .lo) (simp length-front))
 
   pub hi-again : hiOf (recordBytes r f) ≡ f .hi
   hi-again = rw at-head (hi-back _ _ _ _ _ _ (d .hi))

@@ -5,7 +5,7 @@ use mathlib.Core.List.{[], _∷_}
 use mathlib.Core.Bool.{cond}
 use lib.Dec.{eqb}
 use lib.ListN.{length, getD}
-use lib.IntN.{ℤ, pos}
+use lib.IntN.{pos}
 use mir.Syntax.{w32}
 use mir.Val.{SFits}
 use Rattle.formula.specs.declared.Kind.the-variants.{Polynomial, Root}

@@ -1,42 +1,27 @@
 -- Numbers in a part of a list, in a list that goes on, and where they were stored.
 use Rattle.whole.proofs.Basics.{_≡_, _∙_, ap, List, _∷_, _++_, ℕ, _+_, _*_, _/_, _%_, _≤_, _<_, arith, length, take, drop, getD, ℤ, w32, SFits, toZ, ofZ, toZ-ofZ}
-use native.Mathlib.Nat.{add-assoc, add-zero, div-div-eq-div-mul, mod-eq-of-lt, div-add-mod'}
+use native.Mathlib.Nat.{add-assoc, add-zero, zero-add, div-div-eq-div-mul, mod-eq-of-lt, div-add-mod'}
 use lib.ListN.{List·getD-append}
 use lib.Seq.{getD-take, getD-drop, getD-append-seam, getD-append-add}
 use mir.Val.{Fits}
 use mir.ValLaws.{ofZ-fits}
 use Rattle.stored.specs.Numbers.{number2, number4, word4, bytes2, bytes4, pattern}
 
--- a byte of a part
-byte-in : (s : List ℕ) (at n k : ℕ) → k < n → getD (take n (drop at s)) k 0 ≡ getD s (at + k) 0
-byte-in s at n k h = getD-take n (drop at s) k 0 h ∙ getD-drop at s k 0
+-- four bytes that are those of another list make the same number
+same4 : (s t : List ℕ) (i k : ℕ) → ((j : ℕ) → j < 4 → getD s (i + j) 0 ≡ getD t (k + j) 0) → number4 s i ≡ number4 t k
+unfolding number4
+same4 s t i k f =
+    let first : getD s i 0 ≡ getD t k 0 = rw (add-zero i, add-zero k) at (f 0 (omega arith)) in
+    rw (first, f 1 (omega arith), f 2 (omega arith), f 3 (omega arith))
 
 pub number4-in : (s : List ℕ) (at n k : ℕ) → k + 4 ≤ n → number4 (take n (drop at s)) k ≡ number4 s (at + k)
-unfolding number4
-number4-in s at n k h =
-    rw (
-      byte-in s at n k (omega arith),
-      byte-in s at n (k + 1) (omega arith),
-      byte-in s at n (k + 2) (omega arith),
-      byte-in s at n (k + 3) (omega arith),
-      add-assoc at k 1,
-      add-assoc at k 2,
-      add-assoc at k 3,
-    )
+number4-in s at n k h = same4 _ s k (at + k) (λ j g. rw (add-assoc at k j) (getD-take n (drop at s) (k + j) 0 (omega arith) ∙ getD-drop at s (k + j) 0))
 
 pub number4-drop : (s : List ℕ) (at : ℕ) → number4 (drop at s) 0 ≡ number4 s at
-unfolding number4
-number4-drop s at = rw (getD-drop at s 0 0, getD-drop at s 1 0, getD-drop at s 2 0, getD-drop at s 3 0, add-zero at)
+number4-drop s at = same4 _ s 0 at (λ j g. rw (zero-add j) (getD-drop at s j 0))
 
 pub number4-more : (s t : List ℕ) (k : ℕ) → k + 4 ≤ length s → number4 (s ++ t) k ≡ number4 s k
-unfolding number4
-number4-more s t k h =
-    rw (
-      List·getD-append s t 0 k (omega arith),
-      List·getD-append s t 0 (k + 1) (omega arith),
-      List·getD-append s t 0 (k + 2) (omega arith),
-      List·getD-append s t 0 (k + 3) (omega arith),
-    )
+number4-more s t k h = same4 _ s k k (λ j g. List·getD-append s t 0 (k + j) (omega arith))
 
 -- ---- a number that was stored is read again
 
