@@ -1,0 +1,22 @@
+#!/usr/bin/env bash
+# The statements say enough: no public function of the library's face asks anything of its caller or states nothing, every public
+# definition is named by an example, a law or a promise, and nothing is assumed but the contracts of the C calls read and write.
+set -u
+cd "$(dirname "$0")/.." || exit 2
+. tests/lib.sh
+
+# Each thing that tests/statements.py has read is a pass or a failure.
+count() { # WORD
+    python3 tests/statements.py "$1" >"$room/read" && [ -s "$room/read" ] || fail "tests/statements.py $1 could not read the crates"
+    while read -r verdict what; do
+        if [ "$verdict" = right ]; then pass; else fail "$what"; fi
+    done <"$room/read"
+}
+count contracts
+count named
+
+# Only a crate that stands on a library of the kit can reach a C call, and that is the program alone.
+is "the crates that stand on the kit's io" "$(sed -n 's/^\([a-z_]*\):.* io\b.*/\1/p' crates.txt)" listing
+if rt dev listing --list-axioms >"$room/axioms" 2>&1; then pass; else fail "rt dev listing: $(tail -n 20 "$room/axioms")"; fi
+is "what is assumed" "$(sed -n '/^axioms /,/^logic=/{s/^  //p}' "$room/axioms" | tr '\n' ' ')" "libc::read libc::write "
+conclude
