@@ -1,6 +1,6 @@
 -- Promise: which refusals each function of the board can give. Evaluation has the reader's and 10, the door 13 besides, and the interval the
 -- reader's; where there is none of them, there is an answer.
-use Rattle.whole.proofs.Basics.{_≡_, _∙_, refl, ap, Bool, true, false, cond, _⊎_, inl, inr, List, ℕ, arith, ℤ, ltZ}
+use Rattle.whole.proofs.Basics.{_≡_, refl, Bool, true, false, cond, _⊎_, inl, inr, List, ℕ, arith, ℤ, ltZ}
 use lib.Ieee.{Float}
 use Rattle.formula.specs.declared.Formula.{Formula}
 use Rattle.formula.specs.Formula.{answerOf}
@@ -10,7 +10,6 @@ use Rattle.door.specs.declared.answer.Taken.{Taken}
 use Rattle.door.specs.declared.answer.Taken.the-variants.{Word as Took, NoWord, NotFinite}
 use Rattle.layout.specs.Fields.{wordsIn}
 use Rattle.faults.specs.Refusals.{OneOf}
-use Rattle.faults.specs.declared.Refusal.{Refusal}
 use Rattle.faults.proofs.FaultSets.{one-of}
 use Rattle.sheet.specs.Reader.{readerRefusals, foundNumber, formulaRead}
 use Rattle.sheet.specs.declared.answers.Found.{Found}

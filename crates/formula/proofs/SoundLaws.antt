@@ -1,5 +1,5 @@
 -- What a sound formula says at the kind that it has, and where a rational's words stand.
-use Rattle.whole.proofs.Basics.{_≡_, subst, List, ℕ, _+_, _-_, _≤_, arith, length, take, drop, ℤ}
+use Rattle.whole.proofs.Basics.{_≡_, subst, List, ℕ, _+_, _≤_, arith, length, take, drop, ℤ}
 use lib.ListN.{length-drop}
 use lib.Seq.{length-take-le}
 use Rattle.formula.specs.Formula.{Counted, wordCount, Sound}

@@ -1,11 +1,11 @@
 -- Promise: a copy of an accepted sheet that is cut short is refused by 1, at the record that the cut falls into; and one with bytes behind it
 -- by 9, at the first byte too many. All before that record is without fault, and of the record fewer bytes are left than it says.
-use Rattle.whole.proofs.Basics.{_≡_, _∙_, refl, sym, ap, subst, Bool, true, false, _⊎_, inl, inr, List, [], _∷_, _++_, append-assoc, append-nil, ℕ, _+_, _-_, _≤_, _<_, arith, ltb, length, take, drop, length-append, ltb-true, ltb-false, lt-ltb, le-ltb}
+use Rattle.whole.proofs.Basics.{_≡_, _∙_, refl, sym, ap, Bool, true, false, _⊎_, inl, inr, List, [], _∷_, _++_, append-assoc, append-nil, ℕ, _+_, _-_, _≤_, _<_, arith, ltb, length, take, drop, length-append, ltb-true, ltb-false, lt-ltb, le-ltb}
 use lib.ListN.{take-append-drop}
 use lib.Seq.{take-add, take-append-seam, drop-append-seam, length-take-le}
 use Rattle.table.specs.declared.Class.{Class}
 use Rattle.table.specs.declared.Class.the-variants.{StartRecord, FormulaRecord, EndRecord}
-use Rattle.layout.specs.Fields.{rowFor, formulaNumber}
+use Rattle.layout.specs.Fields.{formulaNumber}
 use Rattle.stored.specs.Numbers.{number4}
 use Rattle.stored.proofs.NumberLaws.{number4-more}
 use Rattle.faults.specs.Guard.{refusal}
@@ -16,7 +16,6 @@ use Rattle.walking.specs.Walking.{walk, faultAt}
 use Rattle.walking.specs.declared.Walk.{Walk}
 use Rattle.walking.proofs.Records.{there}
 use Rattle.sheet.specs.Reader.{countNumber, countPlace, countValue, formulaCount, Accepted}
-use Rattle.sheet.specs.declared.answers.FormulaCount.{FormulaCount}
 use Rattle.sheet.proofs.AcceptedShape.{accepted-shape}
 use Rattle.sheet.proofs.RefusedThere.{there-refused}
 

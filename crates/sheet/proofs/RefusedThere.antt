@@ -9,7 +9,6 @@ use Rattle.walking.specs.declared.Walked.the-variants.{Whole, Broken}
 use Rattle.walking.proofs.WalkToRefusal.{refused-at}
 use Rattle.walking.proofs.RefusalToWalk.{broken}
 use Rattle.sheet.specs.Reader.{countAnswer, noNumber, formulaCount}
-use Rattle.sheet.specs.declared.answers.FormulaCount.{FormulaCount}
 use Rattle.sheet.specs.declared.answers.FormulaCount.the-variants.{Refused}
 
 module _ (s : ℕ) (bytes : List ℕ) (r : Refusal) where

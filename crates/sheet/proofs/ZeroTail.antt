@@ -1,6 +1,6 @@
 -- Promise: an accepted sheet whose last bytes became zeros, two or more of them, is refused; one or none changes no byte. For the last two
 -- bytes are the count, from 1 to 64, of which the second is zero and the first is not.
-use Rattle.whole.proofs.Basics.{_≡_, _∙_, refl, sym, ap, Bool, true, false, _⊎_, inl, inr, List, _++_, append-assoc, ℕ, _+_, _-_, _≤_, _<_, arith, ltb, length, take, getD, length-append, ltb-true, ltb-false}
+use Rattle.whole.proofs.Basics.{_≡_, _∙_, sym, ap, _⊎_, inl, inr, List, _++_, append-assoc, ℕ, _+_, _-_, _≤_, _<_, arith, length, take, getD, length-append}
 use lib.ListN.{replicate, length-replicate, getD-replicate, List·getD-append}
 use lib.Seq.{ext-getD, getD-take, length-take-le, getD-append-add}
 use Rattle.stored.specs.Numbers.{number2}

@@ -2,7 +2,6 @@
 -- of them is the run that stands in the sheet, and of that the sheet writer gives the sheet.
 use Rattle.whole.proofs.Basics.{_≡_, _∙_, refl, sym, ap, ap₂, subst, inl, inr, List, [], _∷_, _++_, ℕ, _≤_, length}
 use Rattle.stored.specs.Numbers.{Bytes}
-use Rattle.formula.specs.declared.Formula.{Formula}
 use Rattle.layout.specs.Fields.{rowFor, formulaNumber, formulaOf}
 use Rattle.putting.proofs.BytesAgain.{bytes-left, bytes-right}
 use Rattle.records.specs.Sheets.{EachFormula, inLine, SheetOf}

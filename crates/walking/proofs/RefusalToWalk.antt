@@ -1,10 +1,9 @@
 -- And back: where a sheet's bytes are at fault the walk is broken, by that number at that place, whatever number is asked for. It goes past
 -- the start and past each formula, and so comes to the fault.
-use Rattle.whole.proofs.Basics.{_≡_, _∙_, refl, sym, ap, _⊎_, inl, inr, List, _++_, ℕ, suc, _+_, _-_, arith, length, length-append, lt-ltb}
-use Rattle.layout.specs.Fields.{countOf}
+use Rattle.whole.proofs.Basics.{_≡_, _∙_, refl, sym, ap, inl, inr, List, ℕ, suc, _+_, _-_, arith, length, lt-ltb}
 use Rattle.faults.specs.Guard.{refusal}
 use Rattle.faults.specs.declared.Refusal.{Refusal}
-use Rattle.walking.specs.Walking.{begin, afterStart, faultAt, walkFrom, walkOf}
+use Rattle.walking.specs.Walking.{begin, afterStart, walkFrom, walkOf}
 use Rattle.walking.specs.Refused.{faultThere, AtTheStart, BehindFormulas, BehindTheEnd, RefusedAt}
 use Rattle.walking.specs.declared.Walk.{Walk}
 use Rattle.walking.specs.declared.Walked.the-variants.{Broken}

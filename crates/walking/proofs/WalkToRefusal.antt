@@ -1,21 +1,18 @@
 -- Where a walk over a sheet is broken, its bytes are at fault: past formulas without fault it comes to the first fault, or to an end with
 -- bytes behind it. What a fault is does not depend on the number that is asked for.
-use Rattle.whole.proofs.Basics.{_≡_, _∙_, refl, sym, ap, subst, Bool, true, false, cond, _⊎_, inl, inr, List, [], _∷_, _++_, append-assoc, ℕ, suc, zero, _+_, _-_, _≤_, _<_, arith, eqb, ltb, length, drop, length-append, eqb-true, eqb-false, ltb-true, ltb-false}
+use Rattle.whole.proofs.Basics.{_≡_, _∙_, refl, sym, ap, subst, Bool, true, false, cond, _⊎_, inl, inr, List, [], _∷_, _++_, append-assoc, ℕ, suc, zero, _+_, _-_, _≤_, _<_, arith, ltb, length, drop, length-append, ltb-true}
 use native.Mathlib.Nat.{zero-add}
 use lib.ListN.{length-drop}
 use Rattle.table.specs.declared.Class.{Class}
 use Rattle.table.specs.declared.Class.the-variants.{StartRecord, FormulaRecord, EndRecord, Unknown}
 use Rattle.table.specs.declared.Row.{Row}
-use Rattle.layout.specs.Fields.{bytesAt, rowFor, countOf, formulaNumber}
-use Rattle.layout.proofs.Cut.{length-bytesAt}
+use Rattle.layout.specs.Fields.{bytesAt, rowFor, countOf}
 use Rattle.faults.specs.Guard.{refusal}
 use Rattle.records.specs.Sheets.{RecordOf, EachFormula, Rising, inLine}
 use Rattle.faults.specs.declared.Refusal.{Refusal}
-use Rattle.faults.proofs.Frames.{framed, reaches}
-use Rattle.walking.specs.Walking.{walk, begin, classFault, recordFault, recordHere, faultAt, afterStart, afterFormula, ending, onward, walkFrom, walkOf}
-use Rattle.walking.specs.Refused.{nextNumber, faultThere, AtTheStart, BehindFormulas, BehindTheEnd, RefusedAt}
+use Rattle.walking.specs.Walking.{walk, begin, classFault, recordFault, recordHere, faultAt, afterStart, afterFormula, ending, walkFrom, walkOf}
+use Rattle.walking.specs.Refused.{nextNumber, faultThere, BehindFormulas, BehindTheEnd, RefusedAt}
 use Rattle.walking.specs.declared.Walk.{Walk}
-use Rattle.walking.specs.declared.Walked.{Walked}
 use Rattle.walking.specs.declared.Walked.the-variants.{Whole, Broken}
 use Rattle.walking.proofs.Clear.{Clear, opened, moved, closed, by-record}
 use Rattle.walking.proofs.Records.{record-at, split-at}

@@ -1,5 +1,5 @@
 -- Laws of `All` and of `Words` over joined lists: by induction along the first.
-use Rattle.whole.proofs.Basics.{List, [], _∷_, _++_, suc, zero, _+_, ℤ}
+use Rattle.whole.proofs.Basics.{List, [], _∷_, _++_, suc, zero, ℤ}
 use Rattle.word.specs.Lists.{All, Words}
 
 pub all-append : (p : ℤ → Type 0) (a b : List ℤ) → All p a → All p b → All p (a ++ b)

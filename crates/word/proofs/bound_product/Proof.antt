@@ -1,5 +1,5 @@
 -- `word::bound_product` meets its contract: the product is not below 0, and the sum that rounds it up fits.
-use Rattle.whole.proofs.Basics.{_∙_, ap₂, _-_, _*_, _≤_, arith, pos, _*ℤ_, w64, needs}
+use Rattle.whole.proofs.Basics.{_∙_, ap₂, _*_, _≤_, arith, pos, _*ℤ_, w64, needs}
 use native.Mathlib.Nat.{mul-le-mul}
 use lib.Pow.{pow-pos, pow-mono}
 use Rattle.whole.proofs.Diff.{n}

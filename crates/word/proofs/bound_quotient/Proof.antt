@@ -1,5 +1,5 @@
 -- `word::bound_quotient` meets its contract: the sum that rounds the quotient up fits.
-use Rattle.whole.proofs.Basics.{_-_, arith, needs}
+use Rattle.whole.proofs.Basics.{arith, needs}
 use Rattle.word.specs.Rounded.{roundedUp}
 use Rattle.word.proofs.WordLaws.{scaled-most}
 use Rattle.word.proofs.bound_quotient.Statement.{statement}
