@@ -138,11 +138,20 @@ IntervalAs s r i = IntervalBy s (r .found) (r .formula) i
 abbrev constant : Formula
 constant = formula 1 (shape Polynomial 1 0 0) (negsuc 0) (pos 1) (padded (pos 50331648 ∷ []))
 
-constant-ends : (answerAt 24 constant (negsuc 1) ≡ refused 10) × (answerAt 24 constant (negsuc 0) ≡ answered (pos 50331648)) × (answerAt 24 constant (pos 1) ≡ answered (pos 50331648)) × (answerAt 24 constant (pos 2) ≡ refused 10)
+constant-ends :
+    (answerAt 24 constant (negsuc 1) ≡ refused 10)
+    × (answerAt 24 constant (negsuc 0) ≡ answered (pos 50331648))
+    × (answerAt 24 constant (pos 1) ≡ answered (pos 50331648))
+    × (answerAt 24 constant (pos 2) ≡ refused 10)
 unfolding answerAt horner rounded padded
 constant-ends = (refl, refl, refl, refl)
 
 -- 10 and 13 of the door; the reader's refusal comes before both
-door-refusals : (takenBy 24 constant NoWord ≡ refused 10) × (takenBy 24 constant NotFinite ≡ refused 13) × (takenAt 24 constant nan ≡ refused 13) × (takenAt 24 constant (fin false 1 (pos 0)) ≡ refused 10) × (whenGiven (Withheld (refusal 0 11)) (refused 10) ≡ refused 11)
+door-refusals :
+    (takenBy 24 constant NoWord ≡ refused 10)
+    × (takenBy 24 constant NotFinite ≡ refused 13)
+    × (takenAt 24 constant nan ≡ refused 13)
+    × (takenAt 24 constant (fin false 1 (pos 0)) ≡ refused 10)
+    × (whenGiven (Withheld (refusal 0 11)) (refused 10) ≡ refused 11)
 unfolding takenOf rounded answerAt
 door-refusals = (refl, refl, refl, refl, refl)

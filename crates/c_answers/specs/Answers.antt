@@ -71,5 +71,7 @@ SpannedBy s r x = Spans s (r .found) (r .formula) x
 refused-fields : (f : Formula) → (fieldsFound (Withheld (refusal 8 1)) f ≡ record { refused = 1; place = 8; fields = noFields }) × (fieldsGiven Given f ≡ fieldsOf f)
 refused-fields f = (refl, refl)
 
-refused-word : (worked (Refused (refusal 0 10)) ≡ record { refused = 10; place = 0; word = pos 0 }) × (shown (NotShown (refusal 0 13)) ≡ record { refused = 13; place = 0; value = ofBits binary64 0 })
+refused-word :
+    (worked (Refused (refusal 0 10)) ≡ record { refused = 10; place = 0; word = pos 0 })
+    × (shown (NotShown (refusal 0 13)) ≡ record { refused = 13; place = 0; value = ofBits binary64 0 })
 refused-word = (refl, refl)

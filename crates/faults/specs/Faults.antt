@@ -103,7 +103,11 @@ unfolding rows firstRow rowOf number2 firstCount fieldOf shapeOf piecesBy outsid
 root-length = (refl, refl)
 
 -- a count or a depth outside its range gives 2: a polynomial's 1 to 16, a rational's 1 to 12 each, a fraction's 1 to 12
-polynomial-counts : (countFault (rowOf 0x0010) 0 0 ≡ 2) × (countFault (rowOf 0x0010) 1 0 ≡ 0) × (countFault (rowOf 0x0010) 16 0 ≡ 0) × (countFault (rowOf 0x0010) 17 0 ≡ 2)
+polynomial-counts :
+    (countFault (rowOf 0x0010) 0 0 ≡ 2)
+    × (countFault (rowOf 0x0010) 1 0 ≡ 0)
+    × (countFault (rowOf 0x0010) 16 0 ≡ 0)
+    × (countFault (rowOf 0x0010) 17 0 ≡ 2)
 unfolding rows firstRow rowOf outside countFault
 polynomial-counts = (refl, refl, refl, refl)
 

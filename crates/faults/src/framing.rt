@@ -2,7 +2,7 @@
 ghost use mathlib.Core.Path.{_≡_};
 ghost use Prim.Native.Nat.{_≤_};
 ghost use lib.ListN.{length};
-ghost use Rattle.table.specs.Table.{rowOf};
+ghost use Rattle.table.specs.Codes.{startRow, endRow};
 ghost use Rattle.table.specs.Rule.{Bare};
 ghost use Rattle.layout.specs.Fields.{countOf};
 ghost use Rattle.faults.specs.Guard.{orElse};
@@ -23,7 +23,7 @@ fn bare_fault(b: &[u8], row: Row) -> u8
 // 2; then 4 for a count out of range.
 pub fn start_fault(b: &[u8]) -> u8
     requires { ⌜ 8 ≤ length (now b) ⌝ }
-    ensures { λ r. ⌜ r ≡ orElse (lengthFault (rowOf 0x0001) (now (b .entry))) (startFault (rowOf 0x0001) (countOf (now (b .entry)))) ⌝ }
+    ensures { λ r. ⌜ r ≡ orElse (lengthFault startRow (now (b .entry))) (startFault startRow (countOf (now (b .entry)))) ⌝ }
 {
     let row = table::row_of(table::START);
     let f = bare_fault(b, row);
@@ -50,7 +50,7 @@ fn count_fault(seen: u16, count: u16, c: u16) -> u8
 // 2; then 4.
 pub fn end_fault(b: &[u8], seen: u16, count: u16) -> u8
     requires { ⌜ 8 ≤ length (now b) ⌝ }
-    ensures { λ r. ⌜ r ≡ orElse (lengthFault (rowOf 0xffff) (now (b .entry))) (endFault seen count (countOf (now (b .entry)))) ⌝ }
+    ensures { λ r. ⌜ r ≡ orElse (lengthFault endRow (now (b .entry))) (endFault seen count (countOf (now (b .entry)))) ⌝ }
 {
     let f = bare_fault(b, table::row_of(table::END));
     if f != 0 {

@@ -123,6 +123,9 @@ pub record Answerable (s : ℕ) (h : Shape) (ws : List ℤ) (x : ℤ) : Type 0 w
 both-sides : (mostOf (negsuc 2) (pos 2) ≡ 3) × (mostOf (negsuc 1) (pos 3) ≡ 3) × (mostOf (pos 1) (pos 2) ≡ 2)
 both-sides = (refl, refl, refl)
 
-root-numbers : (answerBy Root 24 0 0 0 [] (pos 67108864) ≡ pos 33554432) × (numbersBy Root 24 0 0 0 [] (pos 67108864) ≡ pos 33554432 ∷ []) × (divisorsBy Root 24 0 0 0 [] (pos 67108864) ≡ [])
+root-numbers :
+    (answerBy Root 24 0 0 0 [] (pos 67108864) ≡ pos 33554432)
+    × (numbersBy Root 24 0 0 0 [] (pos 67108864) ≡ pos 33554432 ∷ [])
+    × (divisorsBy Root 24 0 0 0 [] (pos 67108864) ≡ [])
 unfolding rootIn
 root-numbers = (refl, refl, refl)

@@ -72,6 +72,9 @@ unfolding admitFrom roundedUp
 square-left = refl
 
 -- its inner term, at x = 2 and L = 3: G is 2, and 1 less 2/3, rounded up, is left; with b at M, the sum leaves the range
-one-term : (gBound 24 (negsuc 16777215) 33554432 ≡ 33554432) × (termBound 24 (negsuc 16777215) (pos 16777216) 33554432 50331648 ≡ Least 5592405) × (termBound 24 (negsuc 16777215) (pos 2147483647) 33554432 50331648 ≡ Beyond)
+one-term :
+    (gBound 24 (negsuc 16777215) 33554432 ≡ 33554432)
+    × (termBound 24 (negsuc 16777215) (pos 16777216) 33554432 50331648 ≡ Least 5592405)
+    × (termBound 24 (negsuc 16777215) (pos 2147483647) 33554432 50331648 ≡ Beyond)
 unfolding roundedUp
 one-term = (refl, refl, refl)

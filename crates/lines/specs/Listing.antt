@@ -82,7 +82,10 @@ unfolding digitsBy decimal
 both-ends = refl
 
 -- the kinds' names; a negative end
-names : (lineOf (formula 2 (shape Rational 1 1 0) (pos 0) (pos 1) (padded [])) ≡ text "2 rational 0 1\n") × (lineOf (formula 3 (shape Fraction 1 0 0) (pos 0) (pos 1) (padded [])) ≡ text "3 fraction 0 1\n") × (lineOf (formula 4 (shape Root 0 0 0) (pos 0) (pos 1) (padded [])) ≡ text "4 root 0 1\n")
+names :
+    (lineOf (formula 2 (shape Rational 1 1 0) (pos 0) (pos 1) (padded [])) ≡ text "2 rational 0 1\n")
+    × (lineOf (formula 3 (shape Fraction 1 0 0) (pos 0) (pos 1) (padded [])) ≡ text "3 fraction 0 1\n")
+    × (lineOf (formula 4 (shape Root 0 0 0) (pos 0) (pos 1) (padded [])) ≡ text "4 root 0 1\n")
 unfolding lineOf digitsBy decimal
 names = (refl, refl, refl)
 

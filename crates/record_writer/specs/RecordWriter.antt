@@ -67,7 +67,11 @@ unfolding rows firstRow rowOf codeFor piecesBy padded kept plainShape plainBy ou
 root-room = (refl, refl)
 
 -- 16 to 28 binary places, and 6 comes before 12
-root-places : (recordWriting 15 exampleRoot 0 ≡ refusedBy 6) × (recordWriting 16 exampleRoot 16 ≡ Written 16) × (recordWriting 28 exampleRoot 16 ≡ Written 16) × (recordWriting 29 exampleRoot 0 ≡ refusedBy 6)
+root-places :
+    (recordWriting 15 exampleRoot 0 ≡ refusedBy 6)
+    × (recordWriting 16 exampleRoot 16 ≡ Written 16)
+    × (recordWriting 28 exampleRoot 16 ≡ Written 16)
+    × (recordWriting 29 exampleRoot 0 ≡ refusedBy 6)
 unfolding rows firstRow rowOf codeFor piecesBy padded kept plainShape plainBy outside countFault intervalFault wordsFault ownFault valueFault scaleFault roomWriting plainWriting recordWriting
 root-places = (refl, refl, refl, refl)
 
@@ -76,7 +80,11 @@ abbrev zeros : ℕ → Formula
 zeros n = formula 1 (shape Polynomial n 0 0) (pos 0) (pos 0) (replicate 32 (pos 0))
 
 -- 1 to 16 coefficients
-counts : (recordWriting 24 (zeros 0) 120 ≡ refusedBy 2) × (recordWriting 24 (zeros 1) 20 ≡ Written 20) × (recordWriting 24 (zeros 16) 80 ≡ Written 80) × (recordWriting 24 (zeros 17) 120 ≡ refusedBy 2)
+counts :
+    (recordWriting 24 (zeros 0) 120 ≡ refusedBy 2)
+    × (recordWriting 24 (zeros 1) 20 ≡ Written 20)
+    × (recordWriting 24 (zeros 16) 80 ≡ Written 80)
+    × (recordWriting 24 (zeros 17) 120 ≡ refusedBy 2)
 unfolding roundedUp boundOf rows firstRow rowOf codeFor piecesBy padded kept plainShape plainBy outside countFault intervalFault wordsFault ownFault valueFault scaleFault roomWriting plainWriting recordWriting
 counts = (refl, refl, refl, refl)
 
@@ -89,6 +97,11 @@ no-formula = refl
 abbrev refusedFirst : ℕ → ℕ → ℕ → Formula
 refusedFirst n lo hi = formula 1 (shape Polynomial n 0 0) (pos lo) (pos hi) (padded (pos 2147483647 ∷ pos 2147483647 ∷ []))
 
-room-last : (recordWriting 24 (refusedFirst 0 1 0) 0 ≡ refusedBy 2) × (recordWriting 24 (refusedFirst 2 16777216 0) 0 ≡ refusedBy 6) × (recordWriting 24 (refusedFirst 2 0 16777216) 0 ≡ refusedBy 7) × (recordWriting 24 (refusedFirst 1 0 16777216) 19 ≡ refusedBy 12) × (recordWriting 24 (refusedFirst 1 0 16777216) 20 ≡ Written 20)
+room-last :
+    (recordWriting 24 (refusedFirst 0 1 0) 0 ≡ refusedBy 2)
+    × (recordWriting 24 (refusedFirst 2 16777216 0) 0 ≡ refusedBy 6)
+    × (recordWriting 24 (refusedFirst 2 0 16777216) 0 ≡ refusedBy 7)
+    × (recordWriting 24 (refusedFirst 1 0 16777216) 19 ≡ refusedBy 12)
+    × (recordWriting 24 (refusedFirst 1 0 16777216) 20 ≡ Written 20)
 unfolding roundedUp boundOf rows firstRow rowOf codeFor piecesBy padded kept plainShape plainBy outside countFault intervalFault wordsFault ownFault valueFault scaleFault roomWriting plainWriting recordWriting
 room-last = (refl, refl, refl, refl, refl)

@@ -78,7 +78,10 @@ length-first : (formulaFault 24 (rowOf 0x0010) overlong 1 1 6 ≡ 2) × (formula
 unfolding bytes2 bytes4 number2 number4 words rows firstRow rowOf firstCount fieldOf shapeOf piecesBy outside countFault sizeFault lengthFault orderFault intervalFault ownFault wordsFault boundOf roundedUp valueFault formulaFault
 length-first = (refl, refl)
 
-number-first : (formulaFault 24 (rowOf 0x0010) (constant 1 0) 0 1 6 ≡ 5) × (formulaFault 24 (rowOf 0x0010) (constant 1 0) 0 1 5 ≡ 6) × (formulaFault 24 (rowOf 0x0010) (constant 0 1) 0 1 5 ≡ 0)
+number-first :
+    (formulaFault 24 (rowOf 0x0010) (constant 1 0) 0 1 6 ≡ 5)
+    × (formulaFault 24 (rowOf 0x0010) (constant 1 0) 0 1 5 ≡ 6)
+    × (formulaFault 24 (rowOf 0x0010) (constant 0 1) 0 1 5 ≡ 0)
 unfolding bytes2 bytes4 number2 number4 words rows firstRow rowOf firstCount fieldOf shapeOf piecesBy outside countFault sizeFault lengthFault orderFault intervalFault ownFault wordsFault boundOf roundedUp valueFault formulaFault
 number-first = (refl, refl, refl)
 
@@ -86,11 +89,16 @@ number-first = (refl, refl, refl)
 abbrev steep : ℕ → ℕ → ℕ → List ℕ
 steep lo hi c = recorded 24 0x0010 5 lo hi (bytes4 2147483647 ++ bytes4 c)
 
-values-first : (formulaFault 24 (rowOf 0x0010) (steep 0 16777216 2147483647) 0 1 5 ≡ 7) × (formulaFault 24 (rowOf 0x0010) (steep 16777216 0 2147483647) 0 1 5 ≡ 6) × (formulaFault 24 (rowOf 0x0010) (steep 0 16777216 2147483648) 0 1 5 ≡ 6)
+values-first :
+    (formulaFault 24 (rowOf 0x0010) (steep 0 16777216 2147483647) 0 1 5 ≡ 7)
+    × (formulaFault 24 (rowOf 0x0010) (steep 16777216 0 2147483647) 0 1 5 ≡ 6)
+    × (formulaFault 24 (rowOf 0x0010) (steep 0 16777216 2147483648) 0 1 5 ≡ 6)
 unfolding bytes2 bytes4 number2 number4 words rows firstRow rowOf firstCount fieldOf shapeOf piecesBy outside countFault sizeFault lengthFault orderFault intervalFault ownFault wordsFault boundOf roundedUp valueFault formulaFault
 values-first = (refl, refl, refl)
 
 -- M over 0 (8), and M + M·x over 0: the numerator's bounds come first (7)
-range-first : (formulaFault 24 (rowOf 0x0011) (recorded 28 0x0011 5 0 16777216 (bytes2 1 ++ (bytes2 1 ++ (bytes4 2147483647 ++ bytes4 0)))) 0 1 5 ≡ 8) × (formulaFault 24 (rowOf 0x0011) (recorded 32 0x0011 5 0 16777216 (bytes2 2 ++ (bytes2 1 ++ (bytes4 2147483647 ++ (bytes4 2147483647 ++ bytes4 0))))) 0 1 5 ≡ 7)
+range-first :
+    (formulaFault 24 (rowOf 0x0011) (recorded 28 0x0011 5 0 16777216 (bytes2 1 ++ (bytes2 1 ++ (bytes4 2147483647 ++ bytes4 0)))) 0 1 5 ≡ 8)
+    × (formulaFault 24 (rowOf 0x0011) (recorded 32 0x0011 5 0 16777216 (bytes2 2 ++ (bytes2 1 ++ (bytes4 2147483647 ++ (bytes4 2147483647 ++ bytes4 0))))) 0 1 5 ≡ 7)
 unfolding bytes2 bytes4 number2 number4 words rows firstRow rowOf firstCount fieldOf shapeOf piecesBy outside countFault sizeFault lengthFault orderFault intervalFault ownFault wordsFault bound boundOf roundedUp valueFault formulaFault
 range-first = (refl, refl)

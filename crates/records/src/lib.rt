@@ -8,6 +8,8 @@ ghost use Rattle.word.specs.Words.{Scale};
 ghost use Rattle.stored.specs.Words.{words, Stretch};
 ghost use Rattle.formula.specs.Formula.{mostOf};
 ghost use Rattle.table.specs.Table.{rowOf};
+ghost use Rattle.table.specs.Codes.{codeFor};
+ghost use Rattle.formula.specs.declared.Kind.the-variants.{Polynomial, Rational, Fraction, Root};
 ghost use Rattle.table.specs.Rule.{Ruled};
 ghost use Rattle.table.specs.declared.Class.the-variants.{FormulaRecord};
 ghost use Rattle.layout.specs.Fields.{loOf, hiOf, rowFor};
@@ -73,7 +75,7 @@ fn most(b: &[u8]) -> u32
 
 fn polynomial_fault(b: &[u8], seen: u16, count: u16, next: u32, s: u32) -> u8
     requires { ⌜ Scale s × (length (now b) ≤ 120) ⌝ }
-    ensures { λ r. ⌜ r ≡ formulaFault s (rowOf 0x0010) (now (b .entry)) seen count next ⌝ }
+    ensures { λ r. ⌜ r ≡ formulaFault s (rowOf (codeFor Polynomial)) (now (b .entry)) seen count next ⌝ }
 {
     let row = table::row_of(table::POLYNOMIAL);
     let f = front_fault(b, row, seen, count, next);
@@ -87,7 +89,7 @@ fn polynomial_fault(b: &[u8], seen: u16, count: u16, next: u32, s: u32) -> u8
 
 fn rational_fault(b: &[u8], seen: u16, count: u16, next: u32, s: u32) -> u8
     requires { ⌜ Scale s × (length (now b) ≤ 120) ⌝ }
-    ensures { λ r. ⌜ r ≡ formulaFault s (rowOf 0x0011) (now (b .entry)) seen count next ⌝ }
+    ensures { λ r. ⌜ r ≡ formulaFault s (rowOf (codeFor Rational)) (now (b .entry)) seen count next ⌝ }
 {
     let row = table::row_of(table::RATIONAL);
     let f = front_fault(b, row, seen, count, next);
@@ -101,7 +103,7 @@ fn rational_fault(b: &[u8], seen: u16, count: u16, next: u32, s: u32) -> u8
 
 fn fraction_fault(b: &[u8], seen: u16, count: u16, next: u32, s: u32) -> u8
     requires { ⌜ Scale s × (length (now b) ≤ 120) ⌝ }
-    ensures { λ r. ⌜ r ≡ formulaFault s (rowOf 0x0012) (now (b .entry)) seen count next ⌝ }
+    ensures { λ r. ⌜ r ≡ formulaFault s (rowOf (codeFor Fraction)) (now (b .entry)) seen count next ⌝ }
 {
     let row = table::row_of(table::FRACTION);
     let f = front_fault(b, row, seen, count, next);
@@ -116,7 +118,7 @@ fn fraction_fault(b: &[u8], seen: u16, count: u16, next: u32, s: u32) -> u8
 // A root has no words, and is always admitted.
 fn root_fault(b: &[u8], seen: u16, count: u16, next: u32) -> u8
     requires { ⌜ length (now b) ≤ 120 ⌝ }
-    ensures { λ r. ⌜ r ≡ frontFault (rowOf 0x0013) (now (b .entry)) seen count next ⌝ }
+    ensures { λ r. ⌜ r ≡ frontFault (rowOf (codeFor Root)) (now (b .entry)) seen count next ⌝ }
 {
     front_fault(b, table::row_of(table::ROOT), seen, count, next)
 }

@@ -142,12 +142,20 @@ startOnly = 8 ∷ 0 ∷ 0 ∷ 0 ∷ 1 ∷ 0 ∷ 1 ∷ 0 ∷ []
 abbrev endOnly : List ℕ
 endOnly = 8 ∷ 0 ∷ 0 ∷ 0 ∷ 255 ∷ 255 ∷ 1 ∷ 0 ∷ []
 
-refusals : (formulaCount 24 [] ≡ Refused (refusal 0 1)) × (formulaCount 24 (replicate 8 0) ≡ Refused (refusal 0 2)) × (formulaCount 24 startOnly ≡ Refused (refusal 8 1)) × (formulaCount 24 endOnly ≡ Refused (refusal 0 3))
+refusals :
+    (formulaCount 24 [] ≡ Refused (refusal 0 1))
+    × (formulaCount 24 (replicate 8 0) ≡ Refused (refusal 0 2))
+    × (formulaCount 24 startOnly ≡ Refused (refusal 8 1))
+    × (formulaCount 24 endOnly ≡ Refused (refusal 0 3))
 unfolding formulaCount walkOf walkFrom faultAt frameFault bytesAt recordFault lengthFault sizeFault countFault outside startFault scaleFault number2 number4 rows firstRow rowOf firstCount fieldOf shapeOf piecesBy
 refusals = (refl, refl, refl, refl)
 
 -- a start at 15 to 29 places: 6 outside 16 to 28
-by-scale : (formulaCount 15 startOnly ≡ Refused (refusal 0 6)) × (formulaCount 16 startOnly ≡ Refused (refusal 8 1)) × (formulaCount 28 startOnly ≡ Refused (refusal 8 1)) × (formulaCount 29 startOnly ≡ Refused (refusal 0 6))
+by-scale :
+    (formulaCount 15 startOnly ≡ Refused (refusal 0 6))
+    × (formulaCount 16 startOnly ≡ Refused (refusal 8 1))
+    × (formulaCount 28 startOnly ≡ Refused (refusal 8 1))
+    × (formulaCount 29 startOnly ≡ Refused (refusal 0 6))
 unfolding formulaCount walkOf walkFrom faultAt frameFault bytesAt recordFault lengthFault sizeFault countFault outside startFault scaleFault number2 number4 rows firstRow rowOf firstCount fieldOf shapeOf piecesBy
 by-scale = (refl, refl, refl, refl)
 
@@ -158,7 +166,11 @@ oneRoot =
     ∷ 16 ∷ 0 ∷ 0 ∷ 0 ∷ 19 ∷ 0 ∷ 5 ∷ 0 ∷ 0 ∷ 0 ∷ 0 ∷ 0 ∷ 1 ∷ 0 ∷ 0 ∷ 0
     ∷ 8 ∷ 0 ∷ 0 ∷ 0 ∷ 255 ∷ 255 ∷ 1 ∷ 0 ∷ []
 
-one-root : (formulaCount 24 oneRoot ≡ Count 1) × (formulaPlace 24 oneRoot 5 ≡ At 8) × (placeValue (formulaPlace 24 oneRoot 5) ≡ 8) × (formulaPlace 24 oneRoot 6 ≡ Absent (refusal 0 11))
+one-root :
+    (formulaCount 24 oneRoot ≡ Count 1)
+    × (formulaPlace 24 oneRoot 5 ≡ At 8)
+    × (placeValue (formulaPlace 24 oneRoot 5) ≡ 8)
+    × (formulaPlace 24 oneRoot 6 ≡ Absent (refusal 0 11))
 unfolding formulaCount formulaPlace walkOf walkFrom faultAt foundBy ending frameFault bytesAt recordFault lengthFault sizeFault countFault outside startFault scaleFault orderFault endFault valueFault ownFault intervalFault wordsFault number2 number4 words rows firstRow rowOf firstCount fieldOf shapeOf piecesBy
 one-root = (refl, refl, refl, refl)
 

@@ -38,7 +38,13 @@ pub record Puts (l : List ℕ) (at : ℕ) (t d : List ℕ) (n : ℕ) : Type 0 wh
   pub stored : d ≡ sets l at t
 
 -- ---- worked examples
-decimals : (decimal 0 ≡ text "0") × (decimal 7 ≡ text "7") × (decimal 10 ≡ text "10") × (decimal 65535 ≡ text "65535") × (decimal 2147483647 ≡ text "2147483647") × (decimal 18446744073709551615 ≡ text "18446744073709551615")
+decimals :
+    (decimal 0 ≡ text "0")
+    × (decimal 7 ≡ text "7")
+    × (decimal 10 ≡ text "10")
+    × (decimal 65535 ≡ text "65535")
+    × (decimal 2147483647 ≡ text "2147483647")
+    × (decimal 18446744073709551615 ≡ text "18446744073709551615")
 unfolding digitsBy decimal
 decimals = (refl, refl, refl, refl, refl, refl)
 

@@ -34,16 +34,16 @@ end-class c e = subst (λ (n : ℕ). rowOf n .class ≡ EndRecord) (sym e) refl
 -- ---- the faults
 module _ (s : ℕ) (from : ℕ) (b : List ℕ) (w : Walk) where
   pub at-start : codeOf b ≡ 0x0001 → startRecordFault s b (w .at) ≡ recordFault s from (rowFor b) b w
-  unfolding recordFault rowOf firstRow rows
-  at-start e = rw e (by (eqb (w .at) 0) (lengthFault (rowOf 0x0001) b) (startFault (rowOf 0x0001) (countOf b)))
+  unfolding recordFault rowOf startRow firstRow rows
+  at-start e = rw e (by (eqb (w .at) 0) (lengthFault startRow b) (startFault startRow (countOf b)))
     where
       by : (t : Bool) (l c : ℕ) → cond t (orElse (orElse l c) (scaleFault s)) 3 ≡ orElse (cond t 0 3) (orElse l (orElse c (scaleFault s)))
       by true l c = or-assoc l c (scaleFault s)
       by false l c = refl
 
   pub at-end : codeOf b ≡ 0xffff → endRecordFault from b w ≡ recordFault s from (rowFor b) b w
-  unfolding recordFault rowOf firstRow rows
-  at-end e = rw e (by (eqb (w .at) 0) (eqb from 0) (orElse (lengthFault (rowOf 0xffff) b) (endFault (w .seen) (w .count) (countOf b))))
+  unfolding recordFault rowOf endRow firstRow rows
+  at-end e = rw e (by (eqb (w .at) 0) (eqb from 0) (orElse (lengthFault endRow b) (endFault (w .seen) (w .count) (countOf b))))
     where
       by : (t u : Bool) (x : ℕ) → cond t 3 (cond u x 3) ≡ orElse (cond t 3 (cond u 0 3)) x
       by true u x = refl

@@ -4,7 +4,8 @@ use Rattle.word.specs.Words.{Scale}
 use Rattle.stored.specs.Numbers.{number4}
 use Rattle.table.specs.declared.Class.{Class}
 use Rattle.table.specs.declared.Class.the-variants.{StartRecord, FormulaRecord, EndRecord}
-use Rattle.table.specs.Table.{rows, firstRow, rowOf}
+use Rattle.table.specs.Table.{rows, firstRow}
+use Rattle.table.specs.Codes.{startRow}
 use Rattle.layout.specs.Fields.{codeOf, rowFor}
 use Rattle.layout.proofs.Cut.{length-bytesAt}
 use Rattle.faults.proofs.Frames.{Framed, framed, reaches}
@@ -15,7 +16,7 @@ use Rattle.walking.proofs.Clear.{Clear, clear, opened, moved, walk-on}
 
 -- and so is that of a run's records
 pub run-room : (from asked : ℕ) → begin (suc from) asked .count ≡ 64
-unfolding rowOf firstRow rows
+unfolding startRow firstRow rows
 run-room from asked = refl
 
 pub record Going (s : ℕ) (bytes : List ℕ) (from asked : ℕ) (w : Walk) : Type 0 where

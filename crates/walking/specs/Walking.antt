@@ -13,6 +13,7 @@ use Rattle.table.specs.declared.Class.{Class}
 use Rattle.table.specs.declared.Class.the-variants.{StartRecord, FormulaRecord, EndRecord, Unknown}
 use Rattle.table.specs.declared.Row.{Row}
 use Rattle.table.specs.Table.{rows, firstRow, rowOf, piecesBy}
+use Rattle.table.specs.Codes.{startRow, endRow}
 use Rattle.layout.specs.Fields.{bytesAt, rowFor, countOf, formulaNumber, firstCount, fieldOf, shapeOf}
 use Rattle.faults.specs.Guard.{guard, orElse, refusal}
 use Rattle.faults.specs.Faults.{frameFault, outside, countFault, sizeFault, lengthFault, startFault, scaleFault, orderFault, endFault}
@@ -27,7 +28,7 @@ walk a c s n k f = record { at = a; count = c; seen = s; next = n; asked = k; fo
 -- ---- where it begins. A run may have as many records as the table lets a start say, 64
 abbrev pub roomFor : ℕ → ℕ
 roomFor zero = 0
-roomFor (suc n) = rowOf 0x0001 .count .most
+roomFor (suc n) = startRow .count .most
 
 abbrev pub begin : ℕ → ℕ → Walk
 begin from asked = walk from (roomFor from) 0 0 asked 0
@@ -58,13 +59,13 @@ recordFault s from r b w =
 abbrev pub startRecordFault : ℕ → List ℕ → ℕ → ℕ
 startRecordFault s b at =
     cond (eqb at 0)
-    (orElse (orElse (lengthFault (rowOf 0x0001) b) (startFault (rowOf 0x0001) (countOf b))) (scaleFault s))
+    (orElse (orElse (lengthFault startRow b) (startFault startRow (countOf b))) (scaleFault s))
     3
 
 abbrev pub endRecordFault : ℕ → List ℕ → Walk → ℕ
 endRecordFault from b w =
     cond (eqb (w .at) 0) 3
-    (cond (eqb from 0) (orElse (lengthFault (rowOf 0xffff) b) (endFault (w .seen) (w .count) (countOf b))) 3)
+    (cond (eqb from 0) (orElse (lengthFault endRow b) (endFault (w .seen) (w .count) (countOf b))) 3)
 
 abbrev pub otherRecordFault : ℕ → List ℕ → Walk → ℕ
 otherRecordFault s b w =
@@ -133,21 +134,36 @@ abbrev behind : ℕ → Walk
 behind seen = walk 8 1 seen 0 0 0
 
 -- 3 before 2: a start that is no first record, and an end that is; in their places 2
-kind-first : (recordFault 24 0 (rowOf 0x0001) (starting 12 1) (behind 0) ≡ 3) × (recordFault 24 0 (rowOf 0x0001) (starting 12 1) (begin 0 0) ≡ 2) × (recordFault 24 0 (rowOf 0xffff) (closing 12 1) (begin 0 0) ≡ 3) × (recordFault 24 0 (rowOf 0xffff) (closing 12 1) (behind 1) ≡ 2)
+kind-first :
+    (recordFault 24 0 (rowOf 0x0001) (starting 12 1) (behind 0) ≡ 3)
+    × (recordFault 24 0 (rowOf 0x0001) (starting 12 1) (begin 0 0) ≡ 2)
+    × (recordFault 24 0 (rowOf 0xffff) (closing 12 1) (begin 0 0) ≡ 3)
+    × (recordFault 24 0 (rowOf 0xffff) (closing 12 1) (behind 1) ≡ 2)
 unfolding rows firstRow rowOf number2 firstCount fieldOf shapeOf piecesBy outside countFault sizeFault lengthFault startFault endFault scaleFault recordFault
 kind-first = (refl, refl, refl, refl)
 
 -- 2 before 4: an end of 12 bytes that comes too early. A start's count of 64 and of 65 (4), which comes before the scale (6)
-length-first : (recordFault 24 0 (rowOf 0xffff) (closing 12 1) (behind 0) ≡ 2) × (recordFault 24 0 (rowOf 0xffff) (closing 8 1) (behind 0) ≡ 4) × (recordFault 24 0 (rowOf 0xffff) (closing 8 1) (behind 1) ≡ 0)
+length-first :
+    (recordFault 24 0 (rowOf 0xffff) (closing 12 1) (behind 0) ≡ 2)
+    × (recordFault 24 0 (rowOf 0xffff) (closing 8 1) (behind 0) ≡ 4)
+    × (recordFault 24 0 (rowOf 0xffff) (closing 8 1) (behind 1) ≡ 0)
 unfolding rows firstRow rowOf number2 firstCount fieldOf shapeOf piecesBy outside countFault sizeFault lengthFault startFault endFault scaleFault recordFault
 length-first = (refl, refl, refl)
 
-count-first : (recordFault 24 0 (rowOf 0x0001) (starting 8 64) (begin 0 0) ≡ 0) × (recordFault 15 0 (rowOf 0x0001) (starting 8 65) (begin 0 0) ≡ 4) × (recordFault 15 0 (rowOf 0x0001) (starting 8 64) (begin 0 0) ≡ 6)
+count-first :
+    (recordFault 24 0 (rowOf 0x0001) (starting 8 64) (begin 0 0) ≡ 0)
+    × (recordFault 15 0 (rowOf 0x0001) (starting 8 65) (begin 0 0) ≡ 4)
+    × (recordFault 15 0 (rowOf 0x0001) (starting 8 64) (begin 0 0) ≡ 6)
 unfolding rows firstRow rowOf number2 firstCount fieldOf shapeOf piecesBy outside countFault sizeFault lengthFault startFault endFault scaleFault recordFault
 count-first = (refl, refl, refl)
 
 -- 3 for a formula in the first place, for an unknown kind and, in a run, for an end; 2 of the frame comes before it
-in-place : (placeFault 0 FormulaRecord 0 ≡ 3) × (placeFault 0 FormulaRecord 8 ≡ 0) × (placeFault 0 Unknown 8 ≡ 3) × (placeFault 0 EndRecord 8 ≡ 0) × (placeFault 8 EndRecord 8 ≡ 3)
+in-place :
+    (placeFault 0 FormulaRecord 0 ≡ 3)
+    × (placeFault 0 FormulaRecord 8 ≡ 0)
+    × (placeFault 0 Unknown 8 ≡ 3)
+    × (placeFault 0 EndRecord 8 ≡ 0)
+    × (placeFault 8 EndRecord 8 ≡ 3)
 in-place = (refl, refl, refl, refl, refl)
 
 frame-first : (faultAt 24 (7 ∷ 0 ∷ 0 ∷ 0 ∷ 2 ∷ 0 ∷ 0 ∷ []) 0 (begin 0 0) ≡ 2) × (faultAt 24 (8 ∷ 0 ∷ 0 ∷ 0 ∷ 2 ∷ 0 ∷ 0 ∷ 0 ∷ []) 0 (begin 0 0) ≡ 3)
@@ -156,7 +172,7 @@ frame-first = (refl, refl)
 
 -- a run has room for 64 records, a sheet for as many as its start says
 room : (begin 8 0 .count ≡ 64) × (begin 0 0 .count ≡ 0)
-unfolding rows firstRow rowOf
+unfolding rows firstRow startRow
 room = (refl, refl)
 
 -- ---- what the functions ask of their callers: a run stands not far from the sheet's first byte, and its scale is a board's

@@ -1,6 +1,7 @@
 -- `records::formula_fault` meets its contract: an arm for each code that a formula has, and one for the others.
 use Rattle.whole.proofs.Basics.{_≡_, _∙_, refl, sym, ℕ, arith, now, needs}
 use Rattle.table.specs.Table.{rows, firstRow, rowOf}
+use Rattle.table.specs.Codes.{codeFor}
 use Rattle.layout.specs.Fields.{codeOf}
 use Rattle.faults.proofs.Chain.{stop, pass}
 use Rattle.records.proofs.FormulaLaws.{no-words, no-formula}
@@ -12,19 +13,19 @@ named : (c : tie.After-code) {n : ℕ} → c .code .result ≡ n → codeOf (now
 named c e = sym (c .code .ensures) ∙ e
 
 returns : tie.Need-returns
-unfolding rowOf firstRow rows
+unfolding codeFor rowOf firstRow rows
 returns c = rw (named (c .before .before) (c .before .match .keys1)) (pass refl refl (c .polynomial-fault .ensures))
 
 returns-2 : tie.Need-returns-2
-unfolding rowOf firstRow rows
+unfolding codeFor rowOf firstRow rows
 returns-2 c = rw (named (c .before .before) (c .before .match .keys2)) (pass refl refl (c .rational-fault .ensures))
 
 returns-3 : tie.Need-returns-3
-unfolding rowOf firstRow rows
+unfolding codeFor rowOf firstRow rows
 returns-3 c = rw (named (c .before .before) (c .before .match .keys3)) (pass refl refl (c .fraction-fault .ensures))
 
 returns-4 : tie.Need-returns-4
-unfolding rowOf firstRow rows
+unfolding codeFor rowOf firstRow rows
 returns-4 c = rw (named (c .before .before) (c .before .match .keys4)) (pass refl refl (c .root-fault .ensures ∙ no-words _ (rowOf 0x0013) _ _ _ _ refl))
 
 returns-5 : tie.Need-returns-5

@@ -3,6 +3,7 @@ use Rattle.whole.proofs.Basics.{_≡_, refl, arith, now, needs}
 use Rattle.formula.specs.declared.Kind.the-variants.{Rational}
 use Rattle.formula.proofs.JudgedLaws.{rational-judged}
 use Rattle.table.specs.Table.{rows, firstRow, rowOf}
+use Rattle.table.specs.Codes.{codeFor}
 use Rattle.table.proofs.Rule.{ruled}
 use Rattle.records.proofs.Front.{Front, front-stops, whole, words-stand, front-passes}
 use Rattle.records.proofs.rational_fault.Statement.{statement}
@@ -20,6 +21,7 @@ unfolding rowOf firstRow rows
 front c = record { row = c .before .row-of .ensures; class = refl; kind = refl; short = c .before .before .before .pre .1; fault = c .front-fault .ensures }
 
 returns : tie.Need-returns
+unfolding codeFor firstRow rows
 returns c = front-stops (c .before .before .before .before .args .s) (front (c .before)) (c .if1 .taken)
 
 shape-of-requires : tie.Need-shape-of-requires
@@ -44,6 +46,7 @@ admission-fault-requires : tie.Need-admission-fault-requires
 admission-fault-requires c κs = let e = c .before .before .before .before .before in omega (arith, whole (front (e .before)) (e .if1 .left) .laid .exact)
 
 returns-2 : tie.Need-returns-2
+unfolding codeFor firstRow rows
 returns-2 c =
     let a = c .before in
     let h = a .before .before .before .before in
