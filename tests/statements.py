@@ -30,17 +30,21 @@ def text_of(path):
 
 
 def functions(source):
-    """Each public function with what stands between its name and its body."""
-    for found in re.finditer(r'^pub (?:extern "C" )?fn (\w+)(.*?)^\{',
+    """Each public function with what stands between its name and its body,
+    which begins with a brace that ends a line."""
+    for found in re.finditer(r'^pub (?:extern "C" )?fn (\w+)(.*?)(?:^| )\{$',
                              source, re.MULTILINE | re.DOTALL):
         yield found.group(1), found.group(2)
 
 
 def contracts():
     for crate in FACE:
-        for path in sorted(glob.glob(f"crates/{crate}/src/**/*.rt", recursive=True)):
+        paths = sorted(glob.glob(f"crates/{crate}/src/**/*.rt", recursive=True))
+        if not any(list(functions(text_of(path))) for path in paths):
+            yield False, f"crates/{crate}: no public function could be read"
+        for path in paths:
             for name, stated in functions(text_of(path)):
-                clauses = re.findall(r"^ +(requires|ensures)\b", stated, re.MULTILINE)
+                clauses = re.findall(r"\b(requires|ensures)\b", stated)
                 if "requires" in clauses:
                     yield False, f"{path}: {name} asks something of its caller"
                 elif "ensures" not in clauses:

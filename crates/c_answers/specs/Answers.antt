@@ -9,6 +9,7 @@ use Rattle.door.specs.Exact.{Exactly}
 use Rattle.faults.specs.Guard.{refusal}
 use Rattle.sheet.specs.Reader.{countNumber, countPlace, countValue, foundNumber, foundPlace}
 use Rattle.sheet.specs.declared.answers.FormulaCount.{FormulaCount}
+use Rattle.sheet.specs.declared.answers.FormulaCount.the-variants.{Refused as NotCounted}
 use Rattle.sheet.specs.declared.answers.Found.{Found}
 use Rattle.sheet.specs.declared.answers.Found.the-variants.{Given, Refused as Withheld}
 use Rattle.sheet.specs.declared.answers.Reading.{Reading}
@@ -21,6 +22,7 @@ use Rattle.board.specs.declared.answers.Interval.{Interval}
 use Rattle.board.specs.declared.answers.Interval.the-variants.{Refused as NoInterval}
 use Rattle.record_writer.specs.Answers.{writingNumber, writingPlace, writtenLength}
 use Rattle.record_writer.specs.declared.answers.Writing.{Writing}
+use Rattle.record_writer.specs.declared.answers.Writing.the-variants.{Refused as NotWritten}
 use Rattle.c_answers.specs.declared.answers.Fields.{Fields}
 use Rattle.c_answers.specs.declared.answers.CountedFormulas.{CountedFormulas}
 use Rattle.c_answers.specs.declared.answers.FoundFields.{FoundFields}
@@ -70,6 +72,12 @@ SpannedBy s r x = Spans s (r .found) (r .formula) x
 -- ---- worked examples: a refusal goes out as its number and place, with every value 0; a formula with its fields
 refused-fields : (f : Formula) → (fieldsFound (Withheld (refusal 8 1)) f ≡ record { refused = 1; place = 8; fields = noFields }) × (fieldsGiven Given f ≡ fieldsOf f)
 refused-fields f = (refl, refl)
+
+refused-count :
+    (counted (NotCounted (refusal 8 1)) ≡ record { refused = 1; place = 8; count = 0 })
+    × (written (NotWritten (refusal 8 5)) ≡ record { refused = 5; place = 8; length = 0 })
+    × (spanned (NoInterval (refusal 0 11)) ≡ record { refused = 11; place = 0; low = ofBits binary64 0; high = ofBits binary64 0 })
+refused-count = (refl, refl, refl)
 
 refused-word :
     (worked (Refused (refusal 0 10)) ≡ record { refused = 10; place = 0; word = pos 0 })

@@ -128,15 +128,15 @@ none-or-too-many : (startFault (rowOf 0x0001) 0 ≡ 4) × (startFault (rowOf 0x0
 unfolding rows firstRow rowOf outside startFault
 none-or-too-many = (refl, refl, refl, refl)
 
--- a formula too many, which comes before a number that is too low; the number before, and the same again
+-- a formula too many, which comes before a number that is too low; behind number 4, so from 5 on, the 4 again and the 5
 too-many-first : (orderFault 1 1 5 4 ≡ 4) × (orderFault 0 1 5 4 ≡ 5) × (orderFault 0 1 5 5 ≡ 0)
 unfolding orderFault
 too-many-first = (refl, refl, refl)
 
--- an end too early, in its place, and with another count
-ends : (endFault 0 1 1 ≡ 4) × (endFault 1 1 1 ≡ 0) × (endFault 1 1 2 ≡ 4)
+-- an end too early, in its place, and with a higher and a lower count
+ends : (endFault 0 1 1 ≡ 4) × (endFault 1 1 1 ≡ 0) × (endFault 1 1 2 ≡ 4) × (endFault 2 2 1 ≡ 4)
 unfolding endFault
-ends = (refl, refl, refl)
+ends = (refl, refl, refl, refl)
 
 -- the largest word, the least, and the one pattern that is no word, alone and behind a word
 no-word : (wordFault (pos 2147483647) ≡ 0) × (wordFault (negsuc 2147483646) ≡ 0) × (wordFault (negsuc 2147483647) ≡ 6) × (wordsFault (pos 0 ∷ negsuc 2147483647 ∷ []) ≡ 6)
@@ -148,8 +148,11 @@ unfolding intervalFault
 lo-above-hi = (refl, refl, refl)
 
 -- a root alone is not below 0; a mode of 2, and of 3, which gives 6
-root-from-zero : (kindFault Root (negsuc 0) ≡ 6) × (kindFault Root (pos 0) ≡ 0) × (kindFault Polynomial (negsuc 0) ≡ 0)
-root-from-zero = (refl, refl, refl)
+root-from-zero : (kindFault Root (negsuc 0) ≡ 6) × (kindFault Root (pos 0) ≡ 0)
+root-from-zero = (refl, refl)
+
+others-below-zero : (kindFault Polynomial (negsuc 0) ≡ 0) × (kindFault Rational (negsuc 0) ≡ 0) × (kindFault Fraction (negsuc 0) ≡ 0)
+others-below-zero = (refl, refl, refl)
 
 modes : (ownFault (rowOf 0x0012) (shape Fraction 1 0 2) (pos 0) (pos 0) ≡ 0) × (ownFault (rowOf 0x0012) (shape Fraction 1 0 3) (pos 0) (pos 0) ≡ 6)
 unfolding rows firstRow rowOf outside intervalFault ownFault

@@ -1,4 +1,5 @@
--- The refusals that a record of a sheet can give, as a set; a request that adds one adds it here.
+-- The refusals that a record, and a sheet, can give, as sets. A request that adds one adds it here, and to the record writer's own set
+-- where that can give it too.
 use Prim.Native.Nat.{ℕ}
 use mathlib.Core.Path.{_≡_}
 use mathlib.Core.Logic.{_⊎_}
@@ -9,7 +10,7 @@ abbrev pub OneOf : List ℕ → ℕ → Type 0
 OneOf [] n = ⊥
 OneOf (k ∷ ks) n = (n ≡ k) ⊎ OneOf ks n
 
--- a formula record's own, whatever stands before it; at its place in a sheet; and a sheet's
+-- a record's, at its place in a sheet or a run; and a sheet's
 abbrev pub recordRefusals : List ℕ
 recordRefusals = 1 ∷ 2 ∷ 3 ∷ 4 ∷ 5 ∷ 6 ∷ 7 ∷ 8 ∷ []
 

@@ -7,6 +7,7 @@ use lib.Dec.{ltb}
 use lib.IntN.{ℤ, pos, negsuc, natAbs}
 use lib.Signed.{_≤ℤ_}
 use lib.ListN.{length, take, drop}
+use Rattle.word.specs.Rounded.{rounded}
 use Rattle.word.specs.Words.{Word, Scale}
 use Rattle.word.specs.Root.{rootIn, rootWord}
 use Rattle.word.specs.Lists.{Words}
@@ -15,7 +16,7 @@ use Rattle.admission.specs.declared.Admission.{Admission}
 use Rattle.admission.specs.declared.Admission.the-variants.{Admitted, RangeLeft}
 use Rattle.polynomial.specs.Polynomial.{horner, polynomialNumbers, polynomialAdmission}
 use Rattle.rational.specs.Rational.{rationalOf, rationalNumbers, rationalDivisors, rationalAdmission}
-use Rattle.fraction.specs.Fraction.{fractionOf, fractionNumbers, fractionDivisors}
+use Rattle.fraction.specs.Fraction.{outwardNumbers, outwardDivisors, fractionOf, fractionNumbers, fractionDivisors}
 use Rattle.fraction.specs.Admission.{fractionAdmission}
 use Rattle.formula.specs.declared.Kind.{Kind}
 use Rattle.formula.specs.declared.Kind.the-variants.{Polynomial, Rational, Fraction, Root, NoFormula}
@@ -129,3 +130,21 @@ root-numbers :
     × (divisorsBy Root 24 0 0 0 [] (pos 67108864) ≡ [])
 unfolding rootIn
 root-numbers = (refl, refl, refl)
+
+abbrev tangent : List ℤ
+tangent = pos 0 ∷ pos 16777216 ∷ pos 16777216 ∷ negsuc 16777215 ∷ pos 50331648 ∷ []
+
+-- each kind's numbers and divisors are its own: 1 + x at one; 1 + x over 2 - x at one; the tangent's fraction at a half
+own-numbers :
+    (numbersBy Polynomial 24 2 0 0 (pos 16777216 ∷ pos 16777216 ∷ []) (pos 16777216) ≡ pos 16777216 ∷ pos 33554432 ∷ pos 0 ∷ pos 16777216 ∷ [])
+    × (numbersBy Rational 24 2 2 0 (pos 16777216 ∷ pos 16777216 ∷ pos 33554432 ∷ negsuc 16777215 ∷ []) (pos 16777216)
+    ≡ pos 16777216 ∷ pos 33554432 ∷ pos 0 ∷ pos 16777216 ∷ negsuc 16777215 ∷ pos 16777216 ∷ pos 0 ∷ negsuc 16777215 ∷ pos 33554432 ∷ [])
+    × (numbersBy Fraction 24 2 0 2 tangent (pos 8388608) ≡ pos 4194304 ∷ negsuc 4194303 ∷ negsuc 1398100 ∷ pos 15379115 ∷ pos 8388608 ∷ pos 9151209 ∷ pos 9151209 ∷ [])
+unfolding horner polynomialNumbers outwardNumbers rounded
+own-numbers = (refl, refl, refl)
+
+own-divisors :
+    (divisorsBy Rational 24 2 2 0 (pos 16777216 ∷ pos 16777216 ∷ pos 33554432 ∷ negsuc 16777215 ∷ []) (pos 16777216) ≡ pos 16777216 ∷ [])
+    × (divisorsBy Fraction 24 2 0 2 tangent (pos 8388608) ≡ pos 50331648 ∷ pos 15379115 ∷ [])
+unfolding horner outwardDivisors rounded
+own-divisors = (refl, refl)

@@ -71,10 +71,35 @@ square-left : admissionNumber (fractionAdmission 24 201326592 2 (pos 0 ∷ pos 1
 unfolding admitFrom roundedUp
 square-left = refl
 
--- its inner term, at x = 2 and L = 3: G is 2, and 1 less 2/3, rounded up, is left; with b at M, the sum leaves the range
+-- the inner term of `thirds`, at x = 2 and L = 3: G is 2, and 1 less 2/3, rounded up, is left; with b at M, the sum leaves the range
 one-term :
     (gBound 24 (negsuc 16777215) 33554432 ≡ 33554432)
     × (termBound 24 (negsuc 16777215) (pos 16777216) 33554432 50331648 ≡ Least 5592405)
     × (termBound 24 (negsuc 16777215) (pos 2147483647) 33554432 50331648 ≡ Beyond)
 unfolding roundedUp
 one-term = (refl, refl, refl)
+
+-- 7 and 8 as they are met: the square (7) before the innermost L (8); L before G (7); the sum (7) before the next L (8)
+abbrev admitted : ℕ → ℕ → List ℤ → ℕ → ℕ
+admitted A mode ws k = admissionNumber (fractionAdmission 24 A mode ws k)
+
+in-order :
+    (admitted 201326592 2 (pos 0 ∷ pos 1 ∷ pos 0 ∷ []) 1 ≡ 7)
+    × (admitted 33554432 0 (pos 0 ∷ pos 2147483647 ∷ pos 0 ∷ []) 1 ≡ 8)
+    × (admitted 16777216 0 (pos 0 ∷ pos 0 ∷ pos 0 ∷ pos 16777216 ∷ pos 1 ∷ []) 2 ≡ 7)
+unfolding admitFrom roundedUp
+in-order = (refl, refl, refl)
+
+-- in mode 0 no square is formed, not even of 12
+no-square : admitted 201326592 0 (pos 0 ∷ pos 1 ∷ pos 16777216 ∷ []) 1 ≡ 0
+unfolding admitFrom roundedUp
+no-square = refl
+
+-- the bounds of v up to a half: in mode 2 the first is a half and the others a quarter, in mode 1 all are a quarter. L of 1, and of 0
+bounds-of-v :
+    (admitted 8388608 2 (pos 0 ∷ pos 0 ∷ pos 4194305 ∷ pos 16777216 ∷ pos 16777216 ∷ []) 2 ≡ 0)
+    × (admitted 8388608 2 (pos 0 ∷ pos 0 ∷ pos 4194304 ∷ pos 16777216 ∷ pos 16777216 ∷ []) 2 ≡ 8)
+    × (admitted 8388608 1 (pos 2143289343 ∷ pos 16777216 ∷ pos 16777216 ∷ []) 1 ≡ 0)
+    × (admitted 8388608 2 (pos 2143289343 ∷ pos 16777216 ∷ pos 16777216 ∷ []) 1 ≡ 7)
+unfolding admitFrom roundedUp
+bounds-of-v = (refl, refl, refl, refl)

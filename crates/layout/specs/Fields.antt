@@ -110,7 +110,15 @@ two-words : wordsIn (formula 1 (shape Polynomial 2 0 0) (pos 0) (pos 5) (padded 
 unfolding padded
 two-words = refl
 
--- the second record of two, of three and of two bytes more than their lengths
+-- the root of the paper's listing
+abbrev paperRoot : List ℕ
+paperRoot = 0x10 ∷ 0 ∷ 0 ∷ 0 ∷ 0x13 ∷ 0 ∷ 1 ∷ 0 ∷ 0 ∷ 0 ∷ 0 ∷ 0 ∷ 0 ∷ 0 ∷ 0 ∷ 2 ∷ []
+
+by-name : (codeOf paperRoot ≡ 0x0013) × (formulaNumber paperRoot ≡ 1) × (loOf paperRoot ≡ pos 0) × (hiOf paperRoot ≡ pos 33554432)
+unfolding number2 number4
+by-name = (refl, refl, refl, refl)
+
+-- the second record of two, the first with one byte behind its length and the second with two; a third byte follows
 cut-out : bytesAt (5 ∷ 0 ∷ 0 ∷ 0 ∷ 7 ∷ 6 ∷ 0 ∷ 0 ∷ 0 ∷ 8 ∷ 9 ∷ 1 ∷ []) 5 ≡ 6 ∷ 0 ∷ 0 ∷ 0 ∷ 8 ∷ 9 ∷ []
 unfolding bytesAt number4
 cut-out = refl

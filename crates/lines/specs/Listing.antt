@@ -62,8 +62,11 @@ listingBy bytes (Count c) = countLine c ++ linesFrom c bytes (number4 bytes 0)
 abbrev pub tooLong : ℕ → Bool
 tooLong n = ltb 8192 n
 
+abbrev pub tooLongLine : List ℕ
+tooLongLine = text "too long\n"
+
 unfoldable pub listing : List ℕ → List ℕ
-listing bytes = cond (tooLong (length bytes)) (text "too long\n") (listingBy bytes (formulaCount places bytes))
+listing bytes = cond (tooLong (length bytes)) tooLongLine (listingBy bytes (formulaCount places bytes))
 
 -- the lines of records, each from its own bytes
 abbrev pub linesOf : List (List ℕ) → List ℕ
@@ -71,8 +74,8 @@ linesOf [] = []
 linesOf (b ∷ bs) = lineOf (formulaIn b) ++ linesOf bs
 
 -- ---- worked examples. The longest input, and one byte more; the word of one
-longest : (tooLong 8192 ≡ false) × (tooLong 8193 ≡ true)
-longest = (refl, refl)
+longest : (tooLong 8192 ≡ false) × (tooLong 8193 ≡ true) × (tooLongLine ≡ 116 ∷ 111 ∷ 111 ∷ 32 ∷ 108 ∷ 111 ∷ 110 ∷ 103 ∷ 10 ∷ [])
+longest = (refl, refl, refl)
 
 word-of-one : unit places ≡ 16777216
 word-of-one = refl

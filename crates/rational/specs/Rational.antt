@@ -82,3 +82,22 @@ quotient-numbers = refl
 quotient-divisor : rationalDivisors 24 (pos 33554432 ∷ negsuc 16777215 ∷ []) (pos 16777216) ≡ pos 16777216 ∷ []
 unfolding horner rounded
 quotient-divisor = refl
+
+-- 7 and 8 as they are met: the divisor's B_0 (7) before L (8); then L of 1, and of 0 (8)
+abbrev admitted : ℕ → List ℤ → List ℤ → ℕ
+admitted A num den = admissionNumber (rationalAdmission 24 A num den)
+
+in-order :
+    (admitted 33554432 (pos 1 ∷ []) (pos 0 ∷ pos 2147483647 ∷ []) ≡ 7)
+    × (admitted 16777216 (pos 0 ∷ []) (pos 16777217 ∷ pos 16777216 ∷ []) ≡ 0)
+    × (admitted 16777216 (pos 0 ∷ []) (pos 16777216 ∷ pos 16777216 ∷ []) ≡ 8)
+unfolding bound boundOf roundedUp
+in-order = (refl, refl, refl)
+
+-- with one coefficient L is d0 itself; the bound quotient is held to M, which M by one is and M by a step less than one is not (7)
+one-coefficient :
+    (admitted 16777216 (pos 16777216 ∷ []) (pos 16777216 ∷ []) ≡ 0)
+    × (admitted 0 (pos 2147483647 ∷ []) (pos 16777216 ∷ []) ≡ 0)
+    × (admitted 0 (pos 2147483647 ∷ []) (pos 16777215 ∷ []) ≡ 7)
+unfolding bound boundOf roundedUp
+one-coefficient = (refl, refl, refl)

@@ -1,5 +1,5 @@
--- Promise: the record writer writes, or refuses by 3, 2, 6, 7, 8 or 12. Each check gives one of these or none, and so do checks one behind the other.
-use Rattle.whole.proofs.Basics.{_≡_, refl, Bool, true, false, cond, _⊎_, inl, inr, List, _∷_, ℕ, T, eqb, ltb, eqb-false}
+-- Promise: the record writer writes, or refuses by 3, 2, 6, 7, 8 or 12; and it has no refusal exactly when it wrote. Each check gives one of these or none, and so do checks one behind the other.
+use Rattle.whole.proofs.Basics.{_≡_, refl, Bool, true, false, cond, not, _⊎_, inl, inr, List, _∷_, ℕ, T, eqb, ltb, eqb-false}
 use Rattle.formula.specs.declared.Formula.{Formula}
 use Rattle.table.specs.declared.Class.{Class}
 use Rattle.table.specs.declared.Class.the-variants.{StartRecord, FormulaRecord, EndRecord, Unknown}
@@ -11,7 +11,7 @@ use Rattle.faults.specs.Guard.{guard}
 use Rattle.faults.specs.Faults.{countFault, scaleFault}
 use Rattle.records.specs.Records.{valueFault, onlyFormula}
 use Rattle.faults.specs.Refusals.{OneOf}
-use Rattle.faults.proofs.FaultSets.{among, one-of, Fault, count-set, scale-set}
+use Rattle.faults.proofs.FaultSets.{among, one-of, not-zero, Fault, count-set, scale-set}
 use Rattle.records.proofs.ValueSets.{value-set}
 use Rattle.record_writer.specs.Answers.{writingNumber, refusedBy}
 use Rattle.record_writer.specs.RecordWriter.{roomWriting, plainWriting, recordWriting, recordWriterRefusals}
@@ -21,6 +21,11 @@ use Rattle.record_writer.specs.declared.answers.Writing.the-variants.{Wr
 -- it wrote, or refused by one of a set
 abbrev pub WrittenOr : List ℕ → Writing → Type 0
 WrittenOr l w = ((n : ℕ) × (w ≡ Written n)) ⊎ OneOf l (writingNumber w)
+
+-- of a set without 0: there is no refusal exactly when it wrote
+pub wrote : (l : List ℕ) (w : Writing) → T (not (among l 0)) → WrittenOr l w → writingNumber w ≡ 0 → (n : ℕ) × (w ≡ Written n)
+wrote l w t (inl h) z = h
+wrote l w t (inr h) z = absurd (not-zero l (writingNumber w) t h z)
 
 -- a check in front of another keeps to the set
 pub guarded : (l : List ℕ) (fault : ℕ) (w : Writing) → Fault l fault → WrittenOr l w → WrittenOr l (guard fault refusedBy w)
@@ -59,3 +64,6 @@ unfolding recordWriting
 record-refusals s f room =
     guarded recordWriterRefusals (onlyFormula (rowBy f .class)) _ (kind (rowBy f .class))
     (guarded recordWriterRefusals (scaleFault s) _ (scale-set recordWriterRefusals (is 6 tt) s) (of-formula s (rowBy f) (plain f) room))
+
+pub record-wrote : (s : ℕ) (f : Formula) (room : ℕ) → writingNumber (recordWriting s f room) ≡ 0 → (n : ℕ) × (recordWriting s f room ≡ Written n)
+record-wrote s f room z = wrote recordWriterRefusals (recordWriting s f room) tt (record-refusals s f room) z

@@ -8,8 +8,8 @@ use lib.ListN.{length, replicate}
 use lib.IntN.{pos}
 use Rattle.word.specs.Rounded.{roundedUp}
 use Rattle.stored.specs.Numbers.{bytes2, bytes4}
-use Rattle.polynomial.specs.Polynomial.{boundOf}
-use Rattle.formula.specs.declared.Kind.the-variants.{Polynomial, Root, NoFormula}
+use Rattle.polynomial.specs.Polynomial.{bound, boundOf}
+use Rattle.formula.specs.declared.Kind.the-variants.{Polynomial, Rational, Root, NoFormula}
 use Rattle.formula.specs.declared.Formula.{Formula}
 use Rattle.table.specs.declared.Row.{Row}
 use Rattle.table.specs.Table.{rows, firstRow, rowOf, piecesBy, lengthBy}
@@ -93,6 +93,11 @@ no-formula : recordWriting 0 (formula 1 (shape NoFormula 0 0 0) (pos 1) (pos 0) 
 unfolding rows firstRow rowOf codeFor recordWriting
 no-formula = refl
 
+-- a count of 0 at 15 places: 6 of the places comes before 2
+places-first : recordWriting 15 (zeros 0) 0 ≡ refusedBy 6
+unfolding rows firstRow rowOf codeFor scaleFault recordWriting
+places-first = refl
+
 -- 12 comes last: with no room at all a count of 0 gives 2, lo above hi 6, and M + M·x up to one 7
 abbrev refusedFirst : ℕ → ℕ → ℕ → Formula
 refusedFirst n lo hi = formula 1 (shape Polynomial n 0 0) (pos lo) (pos hi) (padded (pos 2147483647 ∷ pos 2147483647 ∷ []))
@@ -105,3 +110,8 @@ room-last :
     × (recordWriting 24 (refusedFirst 1 0 16777216) 20 ≡ Written 20)
 unfolding roundedUp boundOf rows firstRow rowOf codeFor piecesBy padded kept plainShape plainBy outside countFault intervalFault wordsFault ownFault valueFault scaleFault roomWriting plainWriting recordWriting
 room-last = (refl, refl, refl, refl, refl)
+
+-- one over 0, with no room at all: 8
+no-divisor : recordWriting 24 (formula 1 (shape Rational 1 1 0) (pos 0) (pos 0) (padded (pos 16777216 ∷ pos 0 ∷ []))) 0 ≡ refusedBy 8
+unfolding roundedUp bound boundOf rows firstRow rowOf codeFor piecesBy padded kept plainShape plainBy outside countFault intervalFault wordsFault ownFault valueFault scaleFault roomWriting plainWriting recordWriting
+no-divisor = refl

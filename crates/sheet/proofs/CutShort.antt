@@ -1,4 +1,4 @@
--- Promise: a copy of an accepted sheet that is cut short is refused by 1, at the record that the cut falls into; and one with bytes behind it
+-- Promise: a copy of an accepted sheet that is cut short is refused by 1, whatever record the cut falls into; and one with bytes behind it
 -- by 9, at the first byte too many. All before that record is without fault, and of the record fewer bytes are left than it says.
 use Rattle.whole.proofs.Basics.{_≡_, _∙_, refl, sym, ap, Bool, true, false, _⊎_, inl, inr, List, [], _∷_, _++_, append-assoc, append-nil, ℕ, _+_, _-_, _≤_, _<_, arith, ltb, length, take, drop, length-append, ltb-true, ltb-false, lt-ltb, le-ltb}
 use lib.ListN.{take-append-drop}

@@ -159,20 +159,22 @@ by-scale :
 unfolding formulaCount walkOf walkFrom faultAt frameFault bytesAt recordFault lengthFault sizeFault countFault outside startFault scaleFault number2 number4 rows firstRow rowOf firstCount fieldOf shapeOf piecesBy
 by-scale = (refl, refl, refl, refl)
 
--- a sheet of one root, numbered 5, over 0 to 1 step: its count, its formula's place, and a number that it has not
-abbrev oneRoot : List ℕ
-oneRoot =
+-- a sheet of one root over 0 to 1 step: its count, its formula's place, and a number that it has not. Its number may be 0
+abbrev oneRoot : ℕ → List ℕ
+oneRoot number =
     8 ∷ 0 ∷ 0 ∷ 0 ∷ 1 ∷ 0 ∷ 1 ∷ 0
-    ∷ 16 ∷ 0 ∷ 0 ∷ 0 ∷ 19 ∷ 0 ∷ 5 ∷ 0 ∷ 0 ∷ 0 ∷ 0 ∷ 0 ∷ 1 ∷ 0 ∷ 0 ∷ 0
+    ∷ 16 ∷ 0 ∷ 0 ∷ 0 ∷ 19 ∷ 0 ∷ number ∷ 0 ∷ 0 ∷ 0 ∷ 0 ∷ 0 ∷ 1 ∷ 0 ∷ 0 ∷ 0
     ∷ 8 ∷ 0 ∷ 0 ∷ 0 ∷ 255 ∷ 255 ∷ 1 ∷ 0 ∷ []
 
 one-root :
-    (formulaCount 24 oneRoot ≡ Count 1)
-    × (formulaPlace 24 oneRoot 5 ≡ At 8)
-    × (placeValue (formulaPlace 24 oneRoot 5) ≡ 8)
-    × (formulaPlace 24 oneRoot 6 ≡ Absent (refusal 0 11))
+    (formulaCount 24 (oneRoot 5) ≡ Count 1)
+    × (formulaPlace 24 (oneRoot 5) 5 ≡ At 8)
+    × (placeValue (formulaPlace 24 (oneRoot 5) 5) ≡ 8)
+    × (formulaPlace 24 (oneRoot 5) 6 ≡ Absent (refusal 0 11))
+    × (formulaPlace 24 (oneRoot 0) 0 ≡ At 8)
+    × (placeValue (Absent (refusal 0 11)) ≡ 0)
 unfolding formulaCount formulaPlace walkOf walkFrom faultAt foundBy ending frameFault bytesAt recordFault lengthFault sizeFault countFault outside startFault scaleFault orderFault endFault valueFault ownFault intervalFault wordsFault number2 number4 words rows firstRow rowOf firstCount fieldOf shapeOf piecesBy
-one-root = (refl, refl, refl, refl)
+one-root = (refl, refl, refl, refl, refl, refl)
 
 -- a formula that is not given is no formula, and all zero
 nothing-given : noFormula ≡ formula 0 (shape NoFormula 0 0 0) (pos 0) (pos 0) (replicate 32 (pos 0))

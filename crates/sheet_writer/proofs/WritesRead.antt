@@ -208,7 +208,7 @@ writes-sheet s bytes room a h g =
 
 -- ---- each formula that the reader gives
 
-member : (s : ℕ) (b : List ℕ) (bs : List (List ℕ)) → EachFormula s bs → Bytes (inLine bs) → In b bs → FormulaBytes s b × Bytes b
+pub member : (s : ℕ) (b : List ℕ) (bs : List (List ℕ)) → EachFormula s bs → Bytes (inLine bs) → In b bs → FormulaBytes s b × Bytes b
 member s b (x ∷ xs) f h (inl e) = subst (λ (y : List ℕ). FormulaBytes s y × Bytes y) (sym e) (f .0, bytes-left x (inLine xs) h)
 member s b (x ∷ xs) f h (inr i) = member s b xs (f .1) (bytes-right x (inLine xs) h) i
 

@@ -59,7 +59,7 @@ sheetBytes count run = framingBytes startRow count ++ (run ++ framingBytes endRo
 abbrev pub sheetOf : ℕ → List ℕ → List ℕ
 sheetOf s run = sheetBytes (recordsIn (runWalked s run)) run
 
--- ---- worked examples: the sheet of the paper's listing; a byte more than the run is 16
+-- ---- worked examples: the sheet of the paper's listing, which has 16 bytes more than its run
 abbrev exampleRun : List ℕ
 exampleRun = 0x10 ∷ 0 ∷ 0 ∷ 0 ∷ 0x13 ∷ 0 ∷ 1 ∷ 0 ∷ 0 ∷ 0 ∷ 0 ∷ 0 ∷ 0 ∷ 0 ∷ 0 ∷ 2 ∷ []
 

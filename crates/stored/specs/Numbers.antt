@@ -32,14 +32,14 @@ unfoldable pub bytes4 : ℕ → List ℕ
 bytes4 n = n % 256 ∷ n / 256 % 256 ∷ n / 65536 % 256 ∷ n / 16777216 % 256 ∷ []
 
 -- ---- worked examples: the lowest byte comes first, and the top bit is the sign
-lowest-first : number4 (1 ∷ 2 ∷ 0 ∷ 0 ∷ []) 0 ≡ 513
-unfolding number4
-lowest-first = refl
+lowest-first : (number4 (1 ∷ 2 ∷ 3 ∷ 4 ∷ []) 0 ≡ 67305985) × (number2 (1 ∷ 2 ∷ []) 0 ≡ 513)
+unfolding number2 number4
+lowest-first = (refl, refl)
 
 all-ones : word4 (255 ∷ 255 ∷ 255 ∷ 255 ∷ []) 0 ≡ negsuc 0
 unfolding number4
 all-ones = refl
 
-stored : bytes4 513 ≡ 1 ∷ 2 ∷ 0 ∷ 0 ∷ []
-unfolding bytes4
-stored = refl
+stored : (bytes4 67305985 ≡ 1 ∷ 2 ∷ 3 ∷ 4 ∷ []) × (bytes2 513 ≡ 1 ∷ 2 ∷ [])
+unfolding bytes2 bytes4
+stored = (refl, refl)

@@ -49,7 +49,7 @@ no-formula-code : codeFor NoFormula ≡ 0
 unfolding rows firstRow codeFor
 no-formula-code = refl
 
--- a row by its class and by its kind
+-- a row by its kind
 told-apart : (ofKind Root (rowOf 0x0013) ≡ true) × (ofKind Root (rowOf 0x0012) ≡ false) × (ofKind Root (rowOf 0x0001) ≡ false) × (kindTag NoFormula ≡ 0)
 unfolding rows firstRow rowOf
 told-apart = (refl, refl, refl, refl)

@@ -14,7 +14,7 @@ use Rattle.walking.specs.declared.Walk.{Walk}
 use Rattle.walking.proofs.Classes.{start-class, end-class, formula-class}
 use Rattle.walking.proofs.Clear.{Clear, clear, opened, moved, walk-on}
 
--- and so is that of a run's records
+-- a run may have 64 records
 pub run-room : (from asked : ℕ) → begin (suc from) asked .count ≡ 64
 unfolding startRow firstRow rows
 run-room from asked = refl

@@ -1,4 +1,4 @@
--- A walk that ends by-record, from its end backwards: the records that it went over.
+-- A walk that ends well, from its end backwards: the records that it went over.
 use Rattle.whole.proofs.Basics.{_≡_, _∙_, refl, sym, ap, subst, Bool, true, false, cond, List, [], _∷_, _++_, append-assoc, append-nil, ℕ, suc, zero, _+_, _-_, _≤_, arith, ltb, length, drop, eqb-true, ltb-false}
 use native.Mathlib.Nat.{zero-add}
 use lib.ListN.{drop-of-length-le}

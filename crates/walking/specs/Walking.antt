@@ -122,14 +122,14 @@ walkFrom (suc k) s bytes from w =
 unfoldable pub walkOf : ℕ → List ℕ → ℕ → ℕ → Walked
 walkOf s bytes from asked = walkFrom 66 s bytes from (begin from asked)
 
--- ---- worked examples. A start of 8 bytes and of 12, with a count; an end of 8 and of 12; a kind that is unknown
+-- ---- worked examples. A start and an end of so many bytes, with a count
 abbrev starting : ℕ → ℕ → List ℕ
 starting n c = n ∷ 0 ∷ 0 ∷ 0 ∷ 1 ∷ 0 ∷ c ∷ 0 ∷ replicate (n - 8) 0
 
 abbrev closing : ℕ → ℕ → List ℕ
 closing n c = n ∷ 0 ∷ 0 ∷ 0 ∷ 255 ∷ 255 ∷ c ∷ 0 ∷ replicate (n - 8) 0
 
--- the walk before the first record, and behind a start of one formula, with so many seen
+-- the walk behind a start of one formula, with so many seen
 abbrev behind : ℕ → Walk
 behind seen = walk 8 1 seen 0 0 0
 
@@ -169,6 +169,11 @@ in-place = (refl, refl, refl, refl, refl)
 frame-first : (faultAt 24 (7 ∷ 0 ∷ 0 ∷ 0 ∷ 2 ∷ 0 ∷ 0 ∷ []) 0 (begin 0 0) ≡ 2) × (faultAt 24 (8 ∷ 0 ∷ 0 ∷ 0 ∷ 2 ∷ 0 ∷ 0 ∷ 0 ∷ []) 0 (begin 0 0) ≡ 3)
 unfolding rows firstRow rowOf number2 number4 firstCount fieldOf shapeOf piecesBy outside countFault sizeFault lengthFault frameFault bytesAt recordFault faultAt
 frame-first = (refl, refl)
+
+-- behind a formula numbered 4 the next number is 5
+next-number : (w : Walk) → afterFormula (16 ∷ 0 ∷ 0 ∷ 0 ∷ 0x13 ∷ 0 ∷ 4 ∷ 0 ∷ []) w .next ≡ 5
+unfolding number2
+next-number w = refl
 
 -- a run has room for 64 records, a sheet for as many as its start says
 room : (begin 8 0 .count ≡ 64) × (begin 0 0 .count ≡ 0)

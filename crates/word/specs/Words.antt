@@ -97,7 +97,7 @@ half-a-step-below : productOf 24 (pos 1) (negsuc 8388607) ≡ pos 0
 unfolding rounded
 half-a-step-below = refl
 
--- a third, and a third by a negative divisor; -1 step by 2 is a tie
+-- a third, and a third by a negative divisor; 1 step by -2 is a tie
 third : quotientOf 24 (pos 16777216) (pos 50331648) ≡ pos 5592405
 unfolding rounded
 third = refl
