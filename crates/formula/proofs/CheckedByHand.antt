@@ -2,7 +2,7 @@
 use Rattle.whole.proofs.Basics.{_≡_, refl}
 use mathlib.Core.List.{map}
 use Rattle.word.specs.Rounded.{rounded, roundedUp}
-use Rattle.word.specs.Root.{rootIn}
+use Rattle.root.specs.Root.{rootIn}
 use Rattle.polynomial.specs.Polynomial.{horner, bound, boundOf}
 use Rattle.fraction.specs.Fraction.{outward}
 use Rattle.fraction.specs.Admission.{admitFrom}

@@ -2,7 +2,7 @@
 use Rattle.whole.proofs.Basics.{_≡_, subst, List, ℕ, arith, take, drop, ℤ}
 use lib.Seq.{length-take-le}
 use Rattle.whole.proofs.Order.{≤ℤ-trans}
-use Rattle.word.specs.Words.{Rootable}
+use Rattle.root.specs.Root.{Rootable}
 use Rattle.admission.specs.declared.Admission.the-variants.{Admitted}
 use Rattle.polynomial.specs.Polynomial.{PolynomialReady}
 use Rattle.polynomial.proofs.WalkLaws.{in-range-less}

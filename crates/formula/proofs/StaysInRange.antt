@@ -2,7 +2,7 @@
 use Rattle.whole.proofs.Basics.{_≡_, List, ℕ, _≤_, arith, length, take, drop, ℤ, natAbs, _≤ℤ_}
 use Rattle.whole.proofs.Order.{≤ℤ-trans}
 use Rattle.word.specs.Words.{Word, NotZero, Scale}
-use Rattle.word.proofs.RootLaws.{root-word}
+use Rattle.root.proofs.RootLaws.{root-word}
 use Rattle.word.specs.Lists.{All}
 use Rattle.admission.specs.declared.Admission.the-variants.{Admitted}
 use Rattle.polynomial.proofs.StaysInRange.{polynomial-stays}

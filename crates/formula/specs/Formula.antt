@@ -9,7 +9,7 @@ use lib.Signed.{_≤ℤ_}
 use lib.ListN.{length, take, drop}
 use Rattle.word.specs.Rounded.{rounded}
 use Rattle.word.specs.Words.{Word, Scale}
-use Rattle.word.specs.Root.{rootIn, rootWord}
+use Rattle.root.specs.Root.{rootIn, rootWord}
 use Rattle.word.specs.Lists.{Words}
 use Rattle.stored.specs.Words.{words, Stretch}
 use Rattle.admission.specs.declared.Admission.{Admission}

@@ -48,7 +48,7 @@ pub fn answer(b: &[u8], at: usize, shape: Shape, x: i32, s: u32) -> i32
         Kind::Polynomial => polynomial::answer(b, at, p, x, s),
         Kind::Rational => rational::answer(b, at, p, shape.q as usize, x, s),
         Kind::Fraction => fraction::answer(b, at, p, shape.mode as u32, x, s),
-        Kind::Root => word::root(x, s),
+        Kind::Root => root::root(x, s),
         Kind::NoFormula => 0,
     }
 }

@@ -1,5 +1,4 @@
 -- Laws of continued fractions. `StaysInRange` and `PrintedForm` hold promises.
 pub mod WalkLaws
-pub mod AdmissionSteps
 pub mod StaysInRange
 pub mod PrintedForm

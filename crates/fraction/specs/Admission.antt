@@ -1,18 +1,14 @@
 -- Admission of a continued fraction. A is the larger of |lo| and |hi|; `first` and `rest` bound |v1| and the other |v|'s.
 use mathlib.Core.Path.{_≡_, refl}
-use mathlib.Core.Bool.{cond}
 use mathlib.Core.List.{List, [], _∷_}
 use Prim.Native.Nat.{ℕ, zero, suc, _+_, _-_}
-use lib.Dec.{ltb}
 use lib.IntN.{ℤ, pos, negsuc, natAbs}
 use Rattle.word.specs.Rounded.{roundedUp}
-use Rattle.word.specs.Words.{largest, boundProduct, boundQuotient}
+use Rattle.word.specs.Words.{boundProduct, boundQuotient}
 use Rattle.admission.specs.Admission.{admissionNumber, ranged, apart}
 use Rattle.admission.specs.declared.Admission.{Admission}
 use Rattle.admission.specs.declared.Admission.the-variants.{Admitted}
 use Rattle.fraction.specs.Fraction.{bAt, aAfter, at, firstOf}
-use Rattle.fraction.specs.declared.TermBound.{TermBound}
-use Rattle.fraction.specs.declared.TermBound.the-variants.{Least, Beyond}
 
 -- G is the bound product of |a| and the bound of v, Q the bound quotient of G by L
 abbrev pub gBound : ℕ → ℤ → ℕ → ℕ
@@ -43,17 +39,6 @@ fractionAdmission s A (suc m) ws k =
     ranged (boundProduct s A A)
     (admitInner s (firstOf (suc m) A (boundProduct s A A)) (boundProduct s A A) ws k)
 
--- one term of that walk: the next L, or that the range may be left
-abbrev pub termBound : ℕ → ℤ → ℤ → ℕ → ℕ → TermBound
-termBound s a b v L =
-    cond (ltb largest (gBound s a v)) Beyond
-    (cond (ltb largest (natAbs b + qBound s a v L)) Beyond
-    (Least (natAbs b - qBound s a v L)))
-
--- the same of stored numbers: an a that is no word might stand beside a v of 0, and so be missed
-abbrev pub judgedTerm : ℕ → ℤ → ℤ → ℕ → ℕ → TermBound
-judgedTerm s a b v L = cond (ltb largest (natAbs a)) Beyond (termBound s a b v L)
-
 -- ---- worked examples: x/(1 - x/3) up to x = 2, where 1 - 2/3 is still apart from 0; up to 3, where it is not
 abbrev thirds : List ℤ
 thirds = pos 0 ∷ pos 16777216 ∷ pos 16777216 ∷ negsuc 16777215 ∷ pos 50331648 ∷ []
@@ -71,13 +56,10 @@ square-left : admissionNumber (fractionAdmission 24 201326592 2 (pos 0 ∷ pos 1
 unfolding admitFrom roundedUp
 square-left = refl
 
--- the inner term of `thirds`, at x = 2 and L = 3: G is 2, and 1 less 2/3, rounded up, is left; with b at M, the sum leaves the range
-one-term :
-    (gBound 24 (negsuc 16777215) 33554432 ≡ 33554432)
-    × (termBound 24 (negsuc 16777215) (pos 16777216) 33554432 50331648 ≡ Least 5592405)
-    × (termBound 24 (negsuc 16777215) (pos 2147483647) 33554432 50331648 ≡ Beyond)
+-- the product of the inner term of `thirds`, at x = 2: G is 2
+inner-product : gBound 24 (negsuc 16777215) 33554432 ≡ 33554432
 unfolding roundedUp
-one-term = (refl, refl, refl)
+inner-product = refl
 
 -- 7 and 8 as they are met: the square (7) before the innermost L (8); L before G (7); the sum (7) before the next L (8)
 abbrev admitted : ℕ → ℕ → List ℤ → ℕ → ℕ

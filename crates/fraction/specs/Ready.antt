@@ -42,10 +42,3 @@ pub record FractionReady (s mode : ℕ) (ws : List ℤ) (k : ℕ) (x : ℤ) : Ty
   pub most : ℕ
   pub within : natAbs x ≤ most
   pub admitted : fractionAdmission s most mode ws k ≡ Admitted
-
--- admission
-abbrev pub TermAsked : ℕ → ℕ → Type 0
-TermAsked s l = Scale s × (0 < l)
-
-abbrev pub AdmissionAsked : ℕ → ℕ → Type 0
-AdmissionAsked s k = Scale s × (0 < k)

@@ -111,7 +111,14 @@ fn fraction_fault(b: &[u8], seen: u16, count: u16, next: u32, s: u32) -> u8
         return f;
     }
     let shape = layout::shape_of(b, row);
-    let found = fraction::admit(b, row.head, shape.p as usize, shape.mode as u32, most(b), s);
+    let found = fraction_admission::admit(
+        b,
+        row.head,
+        shape.p as usize,
+        shape.mode as u32,
+        most(b),
+        s,
+    );
     admission_fault(b, row.head, found)
 }
 

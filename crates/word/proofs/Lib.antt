@@ -2,6 +2,4 @@
 pub mod RoundedLaws
 pub mod SignLaws
 pub mod WordLaws
-pub mod RootLaws
-pub mod HeronLaws
 pub mod ListLaws

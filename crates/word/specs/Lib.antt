@@ -1,5 +1,4 @@
 -- The number on the board, as document 01 has it.
 pub mod Rounded
 pub mod Words
-pub mod Root
 pub mod Lists

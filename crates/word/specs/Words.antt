@@ -5,7 +5,6 @@ use Prim.Native.Nat.{ℕ, _*_, _^_, _<_, _≤_}
 use native.Mathlib.Omega.{arith}
 use lib.Dec.{lit≤}
 use lib.IntN.{ℤ, pos, negsuc, negℤ, natAbs, _*ℤ_}
-use lib.Signed.{_≤ℤ_}
 use Rattle.word.specs.Rounded.{rounded, roundedUp}
 
 -- M, the largest word
@@ -58,9 +57,6 @@ Factors s a b = Scale s × Word a × Word b
 
 abbrev pub Division : ℕ → ℤ → ℤ → Type 0
 Division s a d = Scale s × Word a × Word d × NotZero d
-
-abbrev pub Rootable : ℕ → ℤ → Type 0
-Rootable s x = Scale s × Word x × pos 0 ≤ℤ x
 
 -- ---- worked examples. The largest word and the least, and the number beyond each
 the-largest : Word (pos 2147483647)

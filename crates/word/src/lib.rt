@@ -1,10 +1,9 @@
-// The number on the board: products, quotients, their bounds, and roots of words at s binary places.
+// The number on the board: products, quotients and their bounds, of words at s binary places.
 ghost use mathlib.Core.Path.{_≡_};
 ghost use Prim.Native.Nat.{_*_, _<_, _≤_, _^_};
 ghost use lib.IntN.{natAbs, _*ℤ_};
 ghost use Rattle.word.specs.Rounded.{lifted, rounded};
-ghost use Rattle.word.specs.Words.{largest, Scale, Factors, Division, Rootable, unit, withSign, productOf, quotientOf, boundProduct, boundQuotient};
-ghost use Rattle.word.specs.Root.{rootOf, rootWord};
+ghost use Rattle.word.specs.Words.{largest, Scale, Factors, Division, unit, withSign, productOf, quotientOf, boundProduct, boundQuotient};
 
 // M, the largest word.
 pub const LARGEST: u64 = 2147483647;
@@ -28,7 +27,7 @@ pub fn with_sign(sign: bool, m: i64) -> i64
     if sign { -m } else { m }
 }
 
-fn power_of_two(k: u32) -> u64
+pub fn power_of_two(k: u32) -> u64
     requires { ⌜ k < 64 ⌝ }
     ensures { λ r. ⌜ r ≡ 2 ^ k ⌝ }
 {
@@ -44,7 +43,7 @@ fn times(a: i64, b: i64) -> i64
 }
 
 // a·2^s, by a shift.
-fn scaled(a: u32, s: u32) -> u64
+pub fn scaled(a: u32, s: u32) -> u64
     requires { ⌜ Scale s ⌝ }
     ensures { λ r. ⌜ r ≡ a * unit s ⌝ }
 {
@@ -114,33 +113,4 @@ pub fn bound_quotient(a: u32, d: u32, s: u32) -> u64
 {
     let e = d as u64;
     (scaled(a, s) + (e - 1)) / e
-}
-
-// The root of v by Heron's rule, from 2 to the power of half the binary digits, rounded up, which is above the root.
-// It ends when the new number is not below the old: near a square less one the numbers swing between two, and never agree.
-// `less` is w - 1: of the sum `less + 1` the compiler knows that it is not 0, so that it tests no divisor.
-fn heron(v: u64) -> u64
-    requires { ⌜ v < 2 ^ 60 ⌝ }
-    ensures { λ r. ⌜ r ≡ rootOf v ⌝ }
-{
-    if v == 0 {
-        return 0;
-    }
-    let b = 64 - u64::leading_zeros(v);
-    let mut less = power_of_two((b + 1) / 2) - 1;
-    loop {
-        let w = less + 1;
-        let next = (w + v / w) / 2;
-        if w <= next {
-            break w;
-        }
-        less = next - 1;
-    }
-}
-
-pub fn root(x: i32, s: u32) -> i32
-    requires { ⌜ Rootable s x ⌝ }
-    ensures { λ r. ⌜ r ≡ rootWord s x ⌝ }
-{
-    heron(scaled(x as u32, s)) as i32
 }

@@ -1,7 +1,7 @@
 -- `formula::answer` meets its contract: each kind's own answer, over as many words as the kind has.
 use Rattle.whole.proofs.Basics.{_≡_, _∙_, sym, ap, ap₂, subst, List, ℕ, _+_, _*_, take, drop, ℤ, w32, needs}
 use Rattle.whole.proofs.Held.{back, held, arg, given}
-use Rattle.word.specs.Words.{Rootable}
+use Rattle.root.specs.Root.{Rootable}
 use Rattle.stored.specs.Words.{words, Stretch}
 use Rattle.stored.proofs.WordsLaws.{words-all, words-take, words-drop}
 use Rattle.polynomial.specs.Polynomial.{horner, PolynomialReady}

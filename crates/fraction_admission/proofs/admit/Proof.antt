@@ -1,13 +1,13 @@
--- `fraction::admit` meets its contract: what the inner walk has judged is carried over, mode by mode.
+-- `fraction_admission::admit` meets its contract: what the inner walk has judged is carried over, mode by mode.
 use Rattle.whole.proofs.Basics.{_≡_, List, _+_, ℤ, needs, lt-ltb, le-ltb}
 use Rattle.stored.specs.Words.{words}
 use Rattle.admission.specs.Admission.{ranged}
 use Rattle.admission.proofs.AdmissionLaws.{left-not}
 use Rattle.fraction.specs.Fraction.{firstOf}
 use Rattle.fraction.specs.Admission.{admitInner, fractionAdmission}
-use Rattle.fraction.proofs.AdmissionSteps.{mode-more}
-use Rattle.fraction.proofs.admit.Statement.{statement}
-use Rattle.fraction.proofs.admit.Tie as tie
+use Rattle.fraction_admission.proofs.AdmissionSteps.{mode-more}
+use Rattle.fraction_admission.proofs.admit.Statement.{statement}
+use Rattle.fraction_admission.proofs.admit.Tie as tie
 
 abbrev ws : tie.Start → List ℤ
 ws d = words (d .args .b .now) (d .args .at) (d .args .k + d .args .k + 1)

@@ -1,4 +1,4 @@
--- `fraction::admit_inner` meets its contract. The invariant: the whole answer is the answer from depth j on, what stands there is
+-- `fraction_admission::admit_inner` meets its contract. The invariant: the whole answer is the answer from depth j on, what stands there is
 -- apart from 0, and every number from b_j on is a word; so where it admits, all are.
 use Rattle.whole.proofs.Basics.{_≡_, _∙_, sym, ap, List, ℕ, _+_, _-_, _≤_, _<_, arith, ℤ, natAbs, w32, needs}
 use Rattle.whole.proofs.Held.{back, held, held-nat, given}
@@ -9,14 +9,15 @@ use Rattle.admission.specs.Admission.{Judged}
 use Rattle.admission.specs.declared.Admission.{Admission}
 use Rattle.admission.specs.declared.Admission.the-variants.{Admitted}
 use Rattle.admission.proofs.AdmissionLaws.{left-not, zero-not}
 use Rattle.fraction.specs.Fraction.{bAt, aAfter, at}
-use Rattle.fraction.specs.Admission.{admitFrom, admitInner, judgedTerm}
-use Rattle.fraction.specs.declared.TermBound.{TermBound}
-use Rattle.fraction.specs.declared.TermBound.the-variants.{Least, Beyond}
+use Rattle.fraction.specs.Admission.{admitFrom, admitInner}
+use Rattle.fraction_admission.specs.Terms.{judgedTerm}
+use Rattle.fraction_admission.specs.declared.TermBound.{TermBound}
+use Rattle.fraction_admission.specs.declared.TermBound.the-variants.{Least, Beyond}
 use Rattle.fraction.proofs.WalkLaws.{b-is, a-is}
-use Rattle.fraction.proofs.AdmissionSteps.{afterTerm, walk-done, walk-zero, walk-step, judged-least, WordsFrom, none-behind, two-more}
-use Rattle.fraction.proofs.admit_inner.Statement.{statement}
-use Rattle.fraction.proofs.admit_inner.Tie as tie
+use Rattle.fraction_admission.proofs.AdmissionSteps.{afterTerm, walk-done, walk-zero, walk-step, judged-least, WordsFrom, none-behind, two-more}
+use Rattle.fraction_admission.proofs.admit_inner.Statement.{statement}
+use Rattle.fraction_admission.proofs.admit_inner.Tie as tie
 
 abbrev Inv-loop : tie.InvT-loop
 Inv-loop b at k first rest s j₀ l₀ j l =

@@ -3,9 +3,9 @@ use Rattle.whole.proofs.Basics.{_≡_, refl, Bool, true, false, cond, ℕ, suc,
 use native.Mathlib.Nat.{mul-le-mul}
 use native.Mathlib.Decide.{decLe}
 use borrow.Author.Tests.{leb-true, leb-false}
-use Rattle.word.specs.Words.{Word, Rootable, unit}
-use Rattle.word.specs.Root.{RootOf, rootIn, rootOf, rootWord}
+use Rattle.word.specs.Words.{Word, unit}
+use Rattle.root.specs.Root.{RootOf, rootIn, rootOf, Rootable, rootWord}
 use Rattle.word.proofs.WordLaws.{scaled-most}
 
 pub square-lt : (a b : ℕ) → a * a < b * b → a < b
 square-lt a b h = by (decLe b a)

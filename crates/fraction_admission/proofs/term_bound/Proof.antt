@@ -1,11 +1,11 @@
--- `fraction::term_bound` meets its contract: an a that is no word ends it, and each further way out is one of the bound's tests.
+-- `fraction_admission::term_bound` meets its contract: an a that is no word ends it, and each further way out is one of the bound's tests.
 use Rattle.whole.proofs.Basics.{_≡_, _∙_, ap, cond, _+_, _-_, arith, ltb, natAbs, needs, lt-ltb, le-ltb}
 use Rattle.whole.proofs.Held.{held-nat, arg}
-use Rattle.fraction.specs.Admission.{judgedTerm}
-use Rattle.fraction.specs.declared.TermBound.the-variants.{Least, Beyond}
-use Rattle.fraction.proofs.AdmissionSteps.{quotient-most}
-use Rattle.fraction.proofs.term_bound.Statement.{statement}
-use Rattle.fraction.proofs.term_bound.Tie as tie
+use Rattle.fraction_admission.specs.Terms.{judgedTerm}
+use Rattle.fraction_admission.specs.declared.TermBound.the-variants.{Least, Beyond}
+use Rattle.fraction_admission.proofs.AdmissionSteps.{quotient-most}
+use Rattle.fraction_admission.proofs.term_bound.Statement.{statement}
+use Rattle.fraction_admission.proofs.term_bound.Tie as tie
 
 size-is : (c : tie.After-magnitude) → c .magnitude .result ≡ natAbs (c .before .args .a)
 size-is c = c .magnitude .ensures ∙ held-nat (arg (c .before .fits .a))

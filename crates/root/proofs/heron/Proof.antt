@@ -1,13 +1,13 @@
--- `word::heron` meets its contract. The invariant, of w = less + 1: its size leaves room for the sum, and the root is not above it.
+-- `root::heron` meets its contract. The invariant, of w = less + 1: its size leaves room for the sum, and the root is not above it.
 use Rattle.whole.proofs.Basics.{_≡_, sym, subst, ℕ, suc, zero, _+_, _-_, _*_, _/_, _^_, _≤_, _<_, arith}
 use native.Mathlib.Nat.{div-le-self}
 use native.Mathlib.Decide.{decLe}
 use lib.Count.{leadingZeros, leading-le, leading-length}
 use lib.Pow.{pow-pos, pow-mono}
-use Rattle.word.proofs.RootLaws.{root-is}
-use Rattle.word.proofs.HeronLaws.{heron, not-below, heron-ended, start-above}
-use Rattle.word.proofs.heron.Statement.{statement}
-use Rattle.word.proofs.heron.Tie as tie
+use Rattle.root.proofs.RootLaws.{root-is}
+use Rattle.root.proofs.HeronLaws.{heron, not-below, heron-ended, start-above}
+use Rattle.root.proofs.heron.Statement.{statement}
+use Rattle.root.proofs.heron.Tie as tie
 
 abbrev Above : ℕ → ℕ → Type 0
 Above v w = (0 < w) × (w ≤ 2147483648) × (v < (w + 1) * (w + 1))

@@ -1,13 +1,13 @@
--- `word::root` meets its contract: the scaled word is short enough for `heron`, and its root is a word.
+-- `root::root` meets its contract: the scaled word is short enough for `heron`, and its root is a word.
 use Rattle.whole.proofs.Basics.{_≡_, _∙_, ap, ℕ, _*_, _^_, _<_, arith, pos, natAbs, w32, SFits}
 use Rattle.whole.proofs.Diff.{n}
 use Rattle.whole.proofs.Fit.{fit}
 use Rattle.whole.proofs.Held.{held, held-nat, cast-nat, arg}
-use Rattle.word.specs.Root.{rootOf}
-use Rattle.word.proofs.RootLaws.{root-most}
+use Rattle.root.specs.Root.{rootOf}
+use Rattle.root.proofs.RootLaws.{root-most}
 use Rattle.word.proofs.WordLaws.{scaled-most}
-use Rattle.word.proofs.root.Statement.{statement}
-use Rattle.word.proofs.root.Tie as tie
+use Rattle.root.proofs.root.Statement.{statement}
+use Rattle.root.proofs.root.Tie as tie
 
 module _ (c : tie.Start) where
   abbrev v : ℕ

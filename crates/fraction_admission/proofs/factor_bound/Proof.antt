@@ -1,8 +1,8 @@
--- `fraction::factor_bound` meets its contract.
+-- `fraction_admission::factor_bound` meets its contract.
 use Rattle.whole.proofs.Basics.{eq-eqb, ne-eqb}
 use Rattle.fraction.proofs.WalkLaws.{at-is}
-use Rattle.fraction.proofs.factor_bound.Statement.{statement}
-use Rattle.fraction.proofs.factor_bound.Tie as tie
+use Rattle.fraction_admission.proofs.factor_bound.Statement.{statement}
+use Rattle.fraction_admission.proofs.factor_bound.Tie as tie
 
 returns : tie.Need-returns
 returns c = rw (at-is, eq-eqb _ _ (c .if1 .taken))

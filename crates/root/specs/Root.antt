@@ -4,7 +4,8 @@ use mathlib.Core.Bool.{cond}
 use Prim.Native.Nat.{ℕ, zero, suc, _+_, _*_, _/_, _<_, _≤_}
 use lib.Dec.{leb}
 use lib.IntN.{ℤ, pos, natAbs}
-use Rattle.word.specs.Words.{unit}
+use lib.Signed.{_≤ℤ_}
+use Rattle.word.specs.Words.{Word, Scale, unit}
 
 -- r is the largest whole number whose square is not above v
 pub record RootOf (v r : ℕ) : Type 0 where
@@ -27,6 +28,10 @@ rootOf v = rootIn v v
 
 abbrev pub rootWord : ℕ → ℤ → ℤ
 rootWord s x = pos (rootOf (natAbs x * unit s))
+
+-- ---- what the function asks of its callers
+abbrev pub Rootable : ℕ → ℤ → Type 0
+Rootable s x = Scale s × Word x × pos 0 ≤ℤ x
 
 -- ---- worked examples: the root of 8 and of 9; of one step and of two, at 24 places
 below-a-square : rootOf 8 ≡ 2

@@ -1,8 +1,8 @@
--- `fraction::first_bound` meets its contract.
+-- `fraction_admission::first_bound` meets its contract.
 use Rattle.whole.proofs.Basics.{eq-eqb, ne-eqb}
 use Rattle.fraction.proofs.WalkLaws.{first-is}
-use Rattle.fraction.proofs.first_bound.Statement.{statement}
-use Rattle.fraction.proofs.first_bound.Tie as tie
+use Rattle.fraction_admission.proofs.first_bound.Statement.{statement}
+use Rattle.fraction_admission.proofs.first_bound.Tie as tie
 
 returns : tie.Need-returns
 returns c = rw (first-is, eq-eqb _ _ (c .if1 .taken))

@@ -8,10 +8,11 @@ use Rattle.word.proofs.RoundedLaws.{up-least}
 use Rattle.admission.specs.Admission.{ranged}
 use Rattle.admission.specs.declared.Admission.{Admission}
 use Rattle.admission.specs.declared.Admission.the-variants.{Admitted, RangeLeft, DivisorZero}
 use Rattle.fraction.specs.Fraction.{bAt, aAfter, at, firstOf}
-use Rattle.fraction.specs.Admission.{gBound, qBound, admitFrom, admitInner, fractionAdmission, judgedTerm}
-use Rattle.fraction.specs.declared.TermBound.{TermBound}
-use Rattle.fraction.specs.declared.TermBound.the-variants.{Least, Beyond}
+use Rattle.fraction.specs.Admission.{gBound, qBound, admitFrom, admitInner, fractionAdmission}
+use Rattle.fraction_admission.specs.Terms.{judgedTerm}
+use Rattle.fraction_admission.specs.declared.TermBound.{TermBound}
+use Rattle.fraction_admission.specs.declared.TermBound.the-variants.{Least, Beyond}
 
 -- a bound quotient of words leaves room for a sum in 64 bits
 pub quotient-most : (s a d : ℕ) → Scale s → a ≤ 2147483647 → 0 < d → boundQuotient s a d ≤ 576460752034988032

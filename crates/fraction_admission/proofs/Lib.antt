@@ -1,0 +1,2 @@
+-- Laws of the admission of continued fractions.
+pub mod AdmissionSteps

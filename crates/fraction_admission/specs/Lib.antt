@@ -1,0 +1,2 @@
+-- Admission of continued fractions, term by term.
+pub mod Terms
