@@ -14,8 +14,8 @@ import glob
 import re
 import sys
 
-FACE = ("sheet", "record_writer", "sheet_writer", "board", "c_answers",
-        "valvepigeon", "lines")
+FACE = ("sheet", "record_writer", "sheet_writer", "board", "desk",
+        "c_answers", "valvepigeon", "lines")
 COMMENT = re.compile(r"--.*$", re.MULTILINE)
 # A declaration begins a line, perhaps inside a module, and is followed by a
 # colon; a definition is marked, an example or a law of specs/ is not.

@@ -1,7 +1,5 @@
--- Laws of the board, and its promises, from `SameNumbers` on.
-pub mod IntervalLaws
+-- Laws of the board, and its promises, from `AnswersInside` on.
 pub mod ReadingLaws
-pub mod SameNumbers
 pub mod AnswersInside
 pub mod SheetDistance
 pub mod WhichRefusals

@@ -8,7 +8,8 @@ use Rattle.formula.specs.Formula.{Sound, answerOf}
 use Rattle.layout.specs.Fields.{wordsIn}
 use Rattle.sheet.specs.Reader.{HasFormula}
 use Rattle.sheet.proofs.FormulasGiven.{given-fits}
-use Rattle.board.specs.Board.{evaluationWord, evaluated}
+use Rattle.answering.specs.Answering.{evaluationWord}
+use Rattle.board.specs.Board.{evaluated}
 use Rattle.board.proofs.AnswersInside.{formulaGiven, answers-inside}
 
 pub sheet-distance : (s : ℕ) (bytes : List ℕ) (k : ℕ) → HasFormula s bytes k → (n q mode : ℕ) → formulaGiven s bytes k .shape ≡ polynomialShape n q mode → (x : ℤ) → formulaGiven s bytes k .lo ≤ℤ x → x ≤ℤ formulaGiven s bytes k .hi

@@ -1,39 +1,28 @@
--- Promise: which refusals each function of the board can give. Evaluation has the reader's and 10, the door 13 besides, and the interval the
--- reader's; where there is none of them, there is an answer.
-use Rattle.whole.proofs.Basics.{_≡_, refl, Bool, true, false, cond, _⊎_, inl, inr, List, ℕ, arith, ℤ, ltZ}
-use lib.Ieee.{Float}
+-- Promise: which refusals evaluation can give, the reader's and 10; where there is none of them, there is an answer.
+use Rattle.whole.proofs.Basics.{_≡_, refl, Bool, true, false, cond, _⊎_, inl, inr, List, ℕ, ℤ, ltZ}
 use Rattle.formula.specs.declared.Formula.{Formula}
 use Rattle.formula.specs.Formula.{answerOf}
-use Rattle.door.specs.Taken.{takenOf}
-use Rattle.door.specs.declared.answer.Ends.{Ends}
-use Rattle.door.specs.declared.answer.Taken.{Taken}
-use Rattle.door.specs.declared.answer.Taken.the-variants.{Word as Took, NoWord, NotFinite}
 use Rattle.layout.specs.Fields.{wordsIn}
 use Rattle.faults.specs.Refusals.{OneOf}
-use Rattle.faults.proofs.FaultSets.{one-of}
 use Rattle.sheet.specs.Reader.{readerRefusals, foundNumber, formulaRead}
 use Rattle.sheet.specs.declared.answers.Found.{Found}
 use Rattle.sheet.specs.declared.answers.Found.the-variants.{Given, Refused as Withheld}
 use Rattle.sheet.proofs.OneToNine.{read-or-eleven}
-use Rattle.board.specs.Board.{evaluationNumber, shownNumber, intervalNumber, evaluationRefusals, doorRefusals, refused, answered, answerAt, whenGiven, takenBy, evaluated, evaluatedDouble, ShownAs, IntervalBy, IntervalAs}
-use Rattle.board.specs.declared.answers.Evaluation.{Evaluation}
-use Rattle.board.specs.declared.answers.Evaluation.the-variants.{Answered, Refused}
-use Rattle.board.specs.declared.answers.Shown.{Shown}
-use Rattle.board.specs.declared.answers.Shown.the-variants.{Value, Refused as NotShown}
-use Rattle.board.specs.declared.answers.Interval.{Interval}
-use Rattle.board.specs.declared.answers.Interval.the-variants.{Between, Refused as NoInterval}
+use Rattle.answering.specs.Answering.{evaluationNumber, refused, answered, answerAt}
+use Rattle.answering.specs.declared.answers.Evaluation.{Evaluation}
+use Rattle.board.specs.Board.{evaluationRefusals, whenGiven, evaluated}
 
 -- an answer, or a refusal of the set
-abbrev AnswerOr : List ℕ → Evaluation → Type 0
+abbrev pub AnswerOr : List ℕ → Evaluation → Type 0
 AnswerOr l e = ((w : ℤ) × (e ≡ answered w)) ⊎ OneOf l (evaluationNumber e)
 
 -- the reader's refusal comes before what the formula gives
-given-or : (l : List ℕ) (a : Found) (e : Evaluation) → (a ≡ Given) ⊎ OneOf readerRefusals (foundNumber a) → ((n : ℕ) → OneOf readerRefusals n → OneOf l n) → AnswerOr l e → AnswerOr l (whenGiven a e)
+pub given-or : (l : List ℕ) (a : Found) (e : Evaluation) → (a ≡ Given) ⊎ OneOf readerRefusals (foundNumber a) → ((n : ℕ) → OneOf readerRefusals n → OneOf l n) → AnswerOr l e → AnswerOr l (whenGiven a e)
 given-or l a e (inl q) wide k = rw q k
 given-or l Given e (inr h) wide k = k
 given-or l (Withheld r) e (inr h) wide k = inr (wide (r .number) h)
 
-at-argument : (l : List ℕ) → OneOf l 10 → (s : ℕ) (f : Formula) (x : ℤ) → AnswerOr l (answerAt s f x)
+pub at-argument : (l : List ℕ) → OneOf l 10 → (s : ℕ) (f : Formula) (x : ℤ) → AnswerOr l (answerAt s f x)
 unfolding answerAt
 at-argument l ten s f x = at (ltZ x (f .lo)) (ltZ (f .hi) x)
   where
@@ -42,32 +31,5 @@ at-argument l ten s f x = at (ltZ x (f .lo)) (ltZ (f .hi) x)
     at false true = inr ten
     at false false = inl (_, refl)
 
-at-door : (s : ℕ) (f : Formula) (t : Taken) → AnswerOr doorRefusals (takenBy s f t)
-at-door s f (Took w) = at-argument doorRefusals (one-of doorRefusals 10 tt) s f w
-at-door s f NoWord = inr (one-of doorRefusals 10 tt)
-at-door s f NotFinite = inr (one-of doorRefusals 13 tt)
-
-module _ (s : ℕ) (bytes : List ℕ) (n : ℕ) where
-  abbrev f : Formula
-  f = formulaRead s bytes n .formula
-
-  pub evaluation-refusals : (x : ℤ) → ((w : ℤ) × (evaluated s bytes n x ≡ answered w)) ⊎ OneOf evaluationRefusals (evaluationNumber (evaluated s bytes n x))
-  evaluation-refusals x = given-or evaluationRefusals (formulaRead s bytes n .found) _ (read-or-eleven s bytes n) (λ k h. inr h) (at-argument evaluationRefusals (inl refl) s f x)
-
-  pub door-refusals : (x : Float) (y : Shown) → ShownAs s (evaluatedDouble s bytes n x) y → ((v : Float) × (y ≡ Value v)) ⊎ OneOf doorRefusals (shownNumber y)
-  door-refusals x y p = at (evaluatedDouble s bytes n x) y p (given-or doorRefusals (formulaRead s bytes n .found) _ (read-or-eleven s bytes n) (λ k h. inr (inr h)) (at-door s f (takenOf s x)))
-    where
-      at : (e : Evaluation) (y : Shown) → ShownAs s e y → AnswerOr doorRefusals e → ((v : Float) × (y ≡ Value v)) ⊎ OneOf doorRefusals (shownNumber y)
-      at e (Value v) p h = inl (v, refl)
-      at (Answered w) (NotShown r) p h = absurd p
-      at (Refused q) (NotShown r) p (inl h) = absurd (let z : _≡_ {A = ℕ} 0 1 = cc in omega arith)
-      at (Refused q) (NotShown r) p (inr h) = inr (rw p h)
-
-  pub interval-refusals : (i : Interval) → IntervalAs s (formulaRead s bytes n) i → ((e : Ends) × (i ≡ Between e)) ⊎ OneOf readerRefusals (intervalNumber i)
-  interval-refusals i p = at (formulaRead s bytes n .found) i p (read-or-eleven s bytes n)
-    where
-      at : (a : Found) (i : Interval) → IntervalBy s a f i → (a ≡ Given) ⊎ OneOf readerRefusals (foundNumber a) → ((e : Ends) × (i ≡ Between e)) ⊎ OneOf readerRefusals (intervalNumber i)
-      at a (Between e) p h = inl (e, refl)
-      at Given (NoInterval r) p h = absurd p
-      at (Withheld q) (NoInterval r) p (inl h) = absurd (let z : _≡_ {A = ℕ} 0 1 = cc in omega arith)
-      at (Withheld q) (NoInterval r) p (inr h) = inr (rw p h)
+pub evaluation-refusals : (s : ℕ) (bytes : List ℕ) (n : ℕ) (x : ℤ) → ((w : ℤ) × (evaluated s bytes n x ≡ answered w)) ⊎ OneOf evaluationRefusals (evaluationNumber (evaluated s bytes n x))
+evaluation-refusals s bytes n x = given-or evaluationRefusals (formulaRead s bytes n .found) _ (read-or-eleven s bytes n) (λ k h. inr h) (at-argument evaluationRefusals (inl refl) s (formulaRead s bytes n .formula) x)

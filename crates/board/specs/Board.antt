@@ -1,98 +1,19 @@
--- Evaluation takes a whole sheet, a number and an argument: the reader's refusals, then 13, 10. The binary places are s.
+-- Evaluation takes a whole sheet, a number and an argument: the reader's refusals, then 10. The binary places are s.
 use mathlib.Core.Path.{_≡_, refl}
-use mathlib.Core.Bool.{false, cond}
-use mathlib.Core.List.{List, [], _∷_}
+use mathlib.Core.List.{List, _∷_}
 use Prim.Native.Nat.{ℕ}
-use lib.IntN.{ℤ, pos, negsuc}
-use lib.Ieee.{Float, nan, fin, binary64, ofBits}
-use lib.Signed.{ltZ}
-use Rattle.word.specs.Rounded.{rounded}
-use Rattle.formula.specs.declared.Kind.the-variants.{Polynomial}
-use Rattle.formula.specs.declared.Formula.{Formula}
-use Rattle.formula.specs.Formula.{answerOf}
-use Rattle.polynomial.specs.Polynomial.{horner}
-use Rattle.layout.specs.Fields.{shape, padded, formula, wordsIn}
-use Rattle.door.specs.declared.answer.Taken.{Taken}
-use Rattle.door.specs.declared.answer.Taken.the-variants.{Word, NoWord, NotFinite}
-use Rattle.door.specs.Taken.{takenOf, takenNumber, takenPlace}
-use Rattle.door.specs.Exact.{Exactly}
+use lib.IntN.{ℤ}
 use Rattle.faults.specs.Guard.{refusal}
 use Rattle.sheet.specs.Reader.{readerRefusals, formulaRead}
 use Rattle.sheet.specs.declared.answers.Found.{Found}
 use Rattle.sheet.specs.declared.answers.Found.the-variants.{Given, Refused as Withheld}
-use Rattle.sheet.specs.declared.answers.Reading.{Reading}
-use Rattle.board.specs.declared.answers.Evaluation.{Evaluation}
-use Rattle.board.specs.declared.answers.Evaluation.the-variants.{Answered, Refused}
-use Rattle.board.specs.declared.answers.Shown.{Shown}
-use Rattle.board.specs.declared.answers.Shown.the-variants.{Value, Refused as NotShown}
-use Rattle.board.specs.declared.answers.Interval.{Interval}
-use Rattle.board.specs.declared.answers.Interval.the-variants.{Between, Refused as NoInterval}
+use Rattle.answering.specs.Answering.{refused, answerAt}
+use Rattle.answering.specs.declared.answers.Evaluation.{Evaluation}
+use Rattle.answering.specs.declared.answers.Evaluation.the-variants.{Refused}
 
--- the double whose bits are all 0
-abbrev plusZero : Float
-plusZero = ofBits binary64 0
-
--- ---- the paper's number, place and values of each case; 0 where there is none
-abbrev pub evaluationNumber : Evaluation → ℕ
-evaluationNumber (Answered w) = 0
-evaluationNumber (Refused r) = r .number
-
-abbrev pub evaluationPlace : Evaluation → ℕ
-evaluationPlace (Answered w) = 0
-evaluationPlace (Refused r) = r .place
-
-abbrev pub evaluationWord : Evaluation → ℤ
-evaluationWord (Answered w) = w .word
-evaluationWord (Refused r) = pos 0
-
-abbrev pub shownNumber : Shown → ℕ
-shownNumber (Value x) = 0
-shownNumber (NotShown r) = r .number
-
-abbrev pub shownPlace : Shown → ℕ
-shownPlace (Value x) = 0
-shownPlace (NotShown r) = r .place
-
-abbrev pub shownValue : Shown → Float
-shownValue (Value x) = x
-shownValue (NotShown r) = plusZero
-
-abbrev pub intervalNumber : Interval → ℕ
-intervalNumber (Between e) = 0
-intervalNumber (NoInterval r) = r .number
-
-abbrev pub intervalPlace : Interval → ℕ
-intervalPlace (Between e) = 0
-intervalPlace (NoInterval r) = r .place
-
-abbrev pub intervalLow : Interval → Float
-intervalLow (Between e) = e .low
-intervalLow (NoInterval r) = plusZero
-
-abbrev pub intervalHigh : Interval → Float
-intervalHigh (Between e) = e .high
-intervalHigh (NoInterval r) = plusZero
-
--- ---- the refusals that each can give: evaluation the reader's and 10, the door 13 besides; the interval has the reader's
+-- the refusals that evaluation can give: the reader's and 10
 abbrev pub evaluationRefusals : List ℕ
 evaluationRefusals = 10 ∷ readerRefusals
-
-abbrev pub doorRefusals : List ℕ
-doorRefusals = 13 ∷ evaluationRefusals
-
--- 10 to 13 give place 0
-abbrev pub refused : ℕ → Evaluation
-refused number = Refused (refusal 0 number)
-
-abbrev pub answered : ℤ → Evaluation
-answered w = Answered (record { word = w })
-
--- ---- on words. Argument outside lo..hi, both ends inside (10), else the kind's own answer
-unfoldable pub answerAt : ℕ → Formula → ℤ → Evaluation
-answerAt s f x =
-    cond (ltZ x (f .lo)) (refused 10)
-    (cond (ltZ (f .hi) x) (refused 10)
-    (answered (answerOf s (f .shape) (wordsIn f) x)))
 
 -- the reader's refusals come first
 abbrev pub whenGiven : Found → Evaluation → Evaluation
@@ -102,56 +23,6 @@ whenGiven (Withheld r) e = Refused r
 abbrev pub evaluated : ℕ → List ℕ → ℕ → ℤ → Evaluation
 evaluated s bytes n x = whenGiven (formulaRead s bytes n .found) (answerAt s (formulaRead s bytes n .formula) x)
 
--- ---- the door for doubles. Infinite or not a number (13); the rounded value is no word, or outside the interval (10)
-abbrev notTaken : Taken → Evaluation
-notTaken t = Refused (refusal (takenPlace t) (takenNumber t))
-
-abbrev pub takenBy : ℕ → Formula → Taken → Evaluation
-takenBy s f (Word w) = answerAt s f w
-takenBy s f NoWord = notTaken NoWord
-takenBy s f NotFinite = notTaken NotFinite
-
-abbrev pub takenAt : ℕ → Formula → Float → Evaluation
-takenAt s f x = takenBy s f (takenOf s x)
-
-abbrev pub evaluatedDouble : ℕ → List ℕ → ℕ → Float → Evaluation
-evaluatedDouble s bytes n x = whenGiven (formulaRead s bytes n .found) (takenAt s (formulaRead s bytes n .formula) x)
-
--- an answer as the door gives it: the double that is exactly the answer word divided by 2^s, or the same refusal
-abbrev pub ShownAs : ℕ → Evaluation → Shown → Type 0
-ShownAs s (Answered w) (Value x) = Exactly s (w .word) x
-ShownAs s (Answered w) (NotShown r) = ⊥
-ShownAs s (Refused q) (Value x) = ⊥
-ShownAs s (Refused q) (NotShown r) = r ≡ q
-
--- ---- a formula's interval as two doubles, both exact; its refusals are the reader's
-abbrev pub IntervalBy : ℕ → Found → Formula → Interval → Type 0
-IntervalBy s Given f (Between e) = Exactly s (f .lo) (e .low) × Exactly s (f .hi) (e .high)
-IntervalBy s Given f (NoInterval r) = ⊥
-IntervalBy s (Withheld q) f (Between e) = ⊥
-IntervalBy s (Withheld q) f (NoInterval r) = r ≡ q
-
-abbrev pub IntervalAs : ℕ → Reading → Interval → Type 0
-IntervalAs s r i = IntervalBy s (r .found) (r .formula) i
-
--- ---- worked examples: the constant 3, over -1 step to 1 step: both ends, and one step outside each
-abbrev constant : Formula
-constant = formula 1 (shape Polynomial 1 0 0) (negsuc 0) (pos 1) (padded (pos 50331648 ∷ []))
-
-constant-ends :
-    (answerAt 24 constant (negsuc 1) ≡ refused 10)
-    × (answerAt 24 constant (negsuc 0) ≡ answered (pos 50331648))
-    × (answerAt 24 constant (pos 1) ≡ answered (pos 50331648))
-    × (answerAt 24 constant (pos 2) ≡ refused 10)
-unfolding answerAt horner rounded padded
-constant-ends = (refl, refl, refl, refl)
-
--- 10 and 13 of the door; the reader's refusal comes before both
-door-refusals :
-    (takenBy 24 constant NoWord ≡ refused 10)
-    × (takenBy 24 constant NotFinite ≡ refused 13)
-    × (takenAt 24 constant nan ≡ refused 13)
-    × (takenAt 24 constant (fin false 1 (pos 0)) ≡ refused 10)
-    × (whenGiven (Withheld (refusal 0 11)) (refused 10) ≡ refused 11)
-unfolding takenOf rounded answerAt
-door-refusals = (refl, refl, refl, refl, refl)
+-- ---- worked example: the reader's refusal comes before 10
+reader-first : whenGiven (Withheld (refusal 0 11)) (refused 10) ≡ refused 11
+reader-first = refl

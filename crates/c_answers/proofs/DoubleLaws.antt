@@ -4,13 +4,13 @@ use Rattle.formula.specs.declared.Formula.{Formula}
 use Rattle.faults.specs.declared.Refusal.{Refusal}
 use Rattle.sheet.specs.declared.answers.Found.{Found}
 use Rattle.sheet.specs.declared.answers.Found.the-variants.{Given, Refused as Withheld}
-use Rattle.board.specs.Board.{ShownAs, IntervalBy}
-use Rattle.board.specs.declared.answers.Evaluation.{Evaluation}
-use Rattle.board.specs.declared.answers.Evaluation.the-variants.{Answered, Refused}
-use Rattle.board.specs.declared.answers.Shown.{Shown}
-use Rattle.board.specs.declared.answers.Shown.the-variants.{Value, Refused as NotShown}
-use Rattle.board.specs.declared.answers.Interval.{Interval}
-use Rattle.board.specs.declared.answers.Interval.the-variants.{Between, Refused as NoInterval}
+use Rattle.answering.specs.declared.answers.Evaluation.{Evaluation}
+use Rattle.answering.specs.declared.answers.Evaluation.the-variants.{Answered, Refused}
+use Rattle.desk.specs.Desk.{ShownAs, IntervalBy}
+use Rattle.desk.specs.declared.answers.Shown.{Shown}
+use Rattle.desk.specs.declared.answers.Shown.the-variants.{Value, Refused as NotShown}
+use Rattle.desk.specs.declared.answers.Interval.{Interval}
+use Rattle.desk.specs.declared.answers.Interval.the-variants.{Between, Refused as NoInterval}
 use Rattle.c_answers.specs.Answers.{shown, spanned, ShownBy, Spans}
 
 pub shown-by : (s : ℕ) (e : Evaluation) (a : Shown) → ShownAs s e a → ShownBy s e (shown a)

@@ -13,13 +13,14 @@ use Rattle.sheet.specs.declared.answers.FormulaCount.the-variants.{Refused as N
 use Rattle.sheet.specs.declared.answers.Found.{Found}
 use Rattle.sheet.specs.declared.answers.Found.the-variants.{Given, Refused as Withheld}
 use Rattle.sheet.specs.declared.answers.Reading.{Reading}
-use Rattle.board.specs.Board.{evaluationNumber, evaluationPlace, evaluationWord, shownNumber, shownPlace, shownValue, intervalNumber, intervalPlace, intervalLow, intervalHigh}
-use Rattle.board.specs.declared.answers.Evaluation.{Evaluation}
-use Rattle.board.specs.declared.answers.Evaluation.the-variants.{Answered, Refused}
-use Rattle.board.specs.declared.answers.Shown.{Shown}
-use Rattle.board.specs.declared.answers.Shown.the-variants.{Refused as NotShown}
-use Rattle.board.specs.declared.answers.Interval.{Interval}
-use Rattle.board.specs.declared.answers.Interval.the-variants.{Refused as NoInterval}
+use Rattle.answering.specs.Answering.{evaluationNumber, evaluationPlace, evaluationWord}
+use Rattle.answering.specs.declared.answers.Evaluation.{Evaluation}
+use Rattle.answering.specs.declared.answers.Evaluation.the-variants.{Answered, Refused}
+use Rattle.desk.specs.Desk.{shownNumber, shownPlace, shownValue, intervalNumber, intervalPlace, intervalLow, intervalHigh}
+use Rattle.desk.specs.declared.answers.Shown.{Shown}
+use Rattle.desk.specs.declared.answers.Shown.the-variants.{Refused as NotShown}
+use Rattle.desk.specs.declared.answers.Interval.{Interval}
+use Rattle.desk.specs.declared.answers.Interval.the-variants.{Refused as NoInterval}
 use Rattle.record_writer.specs.Answers.{writingNumber, writingPlace, writtenLength}
 use Rattle.record_writer.specs.declared.answers.Writing.{Writing}
 use Rattle.record_writer.specs.declared.answers.Writing.the-variants.{Refused as NotWritten}

@@ -10,9 +10,9 @@ use Rattle.door.proofs.Determined.{exactly-unique}
 use Rattle.sheet.specs.Reader.{formulaRead}
 use Rattle.sheet.specs.declared.answers.Found.{Found}
 use Rattle.sheet.specs.declared.answers.Found.the-variants.{Given, Refused as Withheld}
-use Rattle.board.specs.Board.{evaluatedDouble}
-use Rattle.board.specs.declared.answers.Evaluation.{Evaluation}
-use Rattle.board.specs.declared.answers.Evaluation.the-variants.{Answered, Refused}
+use Rattle.desk.specs.Desk.{evaluatedDouble}
+use Rattle.answering.specs.declared.answers.Evaluation.{Evaluation}
+use Rattle.answering.specs.declared.answers.Evaluation.the-variants.{Answered, Refused}
 use Rattle.c_answers.specs.Answers.{ShownBy, Spans}
 use Rattle.c_answers.specs.declared.answers.ShownValue.{ShownValue}
 use Rattle.c_answers.specs.declared.answers.IntervalEnds.{IntervalEnds}

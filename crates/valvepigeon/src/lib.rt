@@ -2,7 +2,8 @@
 ghost use mathlib.Core.Path.{_≡_};
 ghost use lib.ListN.{length};
 ghost use Rattle.sheet.specs.Reader.{formulaCount, formulaRead};
-ghost use Rattle.board.specs.Board.{evaluated, evaluatedDouble};
+ghost use Rattle.board.specs.Board.{evaluated};
+ghost use Rattle.desk.specs.Desk.{evaluatedDouble};
 ghost use Rattle.record_writer.specs.Answers.{bufferAfter};
 ghost use Rattle.record_writer.specs.RecordWriter.{recordWriting, bytesOf};
 ghost use Rattle.sheet_writer.specs.SheetWriter.{sheetWriting, sheetOf};
@@ -48,14 +49,14 @@ pub extern "C" fn vp_evaluate(sheet: &[u8], number: u16, argument: i32) -> Worke
 pub extern "C" fn vp_evaluate_double(sheet: &[u8], number: u16, argument: f64) -> ShownValue
     ensures { λ r. ⌜ ShownBy places (evaluatedDouble places (now (sheet .entry)) number argument) r ⌝ }
 {
-    conversions::shown(board::evaluate_double(sheet, number, argument, PLACES))
+    conversions::shown(desk::evaluate_double(sheet, number, argument, PLACES))
 }
 
 #[no_mangle]
 pub extern "C" fn vp_interval(sheet: &[u8], number: u16) -> IntervalEnds
     ensures { λ r. ⌜ SpannedBy places (formulaRead places (now (sheet .entry)) number) r ⌝ }
 {
-    conversions::spanned(board::interval(sheet, number, PLACES))
+    conversions::spanned(desk::interval(sheet, number, PLACES))
 }
 
 #[no_mangle]

@@ -4,7 +4,7 @@ use Rattle.formula.specs.declared.Formula.{Formula}
 use Rattle.sheet.specs.Reader.{formulaPlace, FormulaStands}
 use Rattle.sheet.specs.declared.answers.Place.the-variants.{At}
 use Rattle.sheet.proofs.Places.{place-standing}
-use Rattle.board.specs.Board.{answerAt}
+use Rattle.answering.specs.Answering.{answerAt}
 use Rattle.board.proofs.ReadingLaws.{when-at, when-refused}
 use Rattle.board.proofs.evaluate.Statement.{statement}
 use Rattle.board.proofs.evaluate.Tie as tie

@@ -1,6 +1,6 @@
 -- `valvepigeon::vp_evaluate_double` meets its contract.
 use Rattle.whole.proofs.Basics.{sym, subst, needs}
-use Rattle.board.specs.Board.{evaluatedDouble}
+use Rattle.desk.specs.Desk.{evaluatedDouble}
 use Rattle.c_answers.specs.Answers.{ShownBy}
 use Rattle.c_answers.specs.declared.answers.ShownValue.{ShownValue}
 use Rattle.c_answers.proofs.DoubleLaws.{shown-by}

@@ -1,7 +1,7 @@
 -- `c_answers::conversions::worked` meets its contract.
 use Rattle.whole.proofs.Basics.{_∙_, sym, ap, ℤ, w32, SFits, needs}
 use Rattle.whole.proofs.Held.{held, arg}
-use Rattle.board.specs.Board.{answered}
+use Rattle.answering.specs.Answering.{answered}
 use Rattle.c_answers.specs.Answers.{worked}
 use Rattle.c_answers.proofs.conversions.worked.Statement.{statement}
 use Rattle.c_answers.proofs.conversions.worked.Tie as tie

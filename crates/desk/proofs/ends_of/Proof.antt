@@ -1,4 +1,4 @@
--- `board::ends_of` meets its contract: both ends are shown exactly.
+-- `desk::ends_of` meets its contract: both ends are shown exactly.
 use Rattle.whole.proofs.Basics.{subst, arith, ℤ, w32, now, needs}
 use Rattle.whole.proofs.Held.{held, known}
 use Rattle.whole.proofs.Fit.{fit-abs}
@@ -6,8 +6,8 @@ use Rattle.door.specs.Exact.{Exactly}
 use Rattle.layout.specs.Fields.{rowFor, formulaOf}
 use Rattle.records.proofs.Soundness.{sound-record}
 use Rattle.sheet.proofs.Words.{complete-record}
-use Rattle.board.proofs.ends_of.Statement.{statement}
-use Rattle.board.proofs.ends_of.Tie as tie
+use Rattle.desk.proofs.ends_of.Statement.{statement}
+use Rattle.desk.proofs.ends_of.Tie as tie
 
 lo-requires : tie.Need-lo-requires
 lo-requires c κs = complete-record _ (c .before .pre .1 .one) .least

@@ -1,10 +1,10 @@
--- `board::taken_of` meets its contract: the answer at the word that the double is taken as, or the door's refusal.
+-- `desk::taken_of` meets its contract: the answer at the word that the double is taken as, or the door's refusal.
 use Rattle.whole.proofs.Basics.{_∙_, sym, ap, w32, SFits, toZ-ofZ, now, needs}
 use Rattle.formula.specs.declared.Formula.{Formula}
 use Rattle.sheet.specs.Reader.{formulaIn}
-use Rattle.board.specs.Board.{takenBy}
-use Rattle.board.proofs.taken_of.Statement.{statement}
-use Rattle.board.proofs.taken_of.Tie as tie
+use Rattle.desk.specs.Desk.{takenBy}
+use Rattle.desk.proofs.taken_of.Statement.{statement}
+use Rattle.desk.proofs.taken_of.Tie as tie
 
 abbrev f : tie.Start → Formula
 f d = formulaIn (now (d .args .b))

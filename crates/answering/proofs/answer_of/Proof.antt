@@ -1,4 +1,4 @@
--- `board::answer_of` meets its contract: a test for each end of the interval, then the formula's answer.
+-- `answering::answer_of` meets its contract: a test for each end of the interval, then the formula's answer.
 use Rattle.whole.proofs.Basics.{_∙_, sym, ap, subst, List, ℕ, arith, ℤ, _≤ℤ_, w32, now, needs}
 use Rattle.whole.proofs.Fit.{fit-abs}
 use Rattle.whole.proofs.Held.{Held, held, arg, known, given, tested-lt, tested-ge}
@@ -7,10 +7,10 @@ use Rattle.formula.specs.Formula.{answerOf, Answerable}
 use Rattle.layout.specs.Fields.{rowFor, shapeOf, formulaOf}
 use Rattle.sheet.specs.Reader.{formulaIn, Fit}
 use Rattle.sheet.proofs.Words.{complete-record, words-in, fit}
-use Rattle.board.specs.Board.{answered}
-use Rattle.board.proofs.IntervalLaws.{below-low, above-high, inside, answerable}
-use Rattle.board.proofs.answer_of.Statement.{statement}
-use Rattle.board.proofs.answer_of.Tie as tie
+use Rattle.answering.specs.Answering.{answered}
+use Rattle.answering.proofs.IntervalLaws.{below-low, above-high, inside, answerable}
+use Rattle.answering.proofs.answer_of.Statement.{statement}
+use Rattle.answering.proofs.answer_of.Tie as tie
 
 module _ (d : tie.Start) where
   abbrev b : List ℕ

@@ -1,15 +1,15 @@
--- `board::evaluate_double` meets its contract: the answer of the record that stands at the place, shown as a double, or the place's refusal.
+-- `desk::evaluate_double` meets its contract: the answer of the record that stands at the place, shown as a double, or the place's refusal.
 use Rattle.whole.proofs.Basics.{_≡_, _∙_, refl, sym, subst, now, needs}
 use Rattle.formula.specs.declared.Formula.{Formula}
 use Rattle.sheet.specs.Reader.{formulaPlace, FormulaStands}
 use Rattle.sheet.specs.declared.answers.Place.the-variants.{At}
 use Rattle.sheet.proofs.Places.{place-standing}
-use Rattle.board.specs.Board.{takenAt, ShownAs}
-use Rattle.board.specs.declared.answers.Evaluation.{Evaluation}
-use Rattle.board.specs.declared.answers.Shown.the-variants.{Refused}
+use Rattle.answering.specs.declared.answers.Evaluation.{Evaluation}
 use Rattle.board.proofs.ReadingLaws.{when-at, when-refused}
-use Rattle.board.proofs.evaluate_double.Statement.{statement}
-use Rattle.board.proofs.evaluate_double.Tie as tie
+use Rattle.desk.specs.Desk.{takenAt, ShownAs}
+use Rattle.desk.specs.declared.answers.Shown.the-variants.{Refused}
+use Rattle.desk.proofs.evaluate_double.Statement.{statement}
+use Rattle.desk.proofs.evaluate_double.Tie as tie
 
 -- the place that was answered, and what stands there
 module _ (c : tie.After-known-told) where

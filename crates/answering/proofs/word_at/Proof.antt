@@ -1,11 +1,11 @@
--- `board::word_at` meets its contract: the kind's own answer, by the row of the record's code.
+-- `answering::word_at` meets its contract: the kind's own answer, by the row of the record's code.
 use Rattle.whole.proofs.Basics.{_∙_, arith, w32, now, needs}
 use Rattle.whole.proofs.Held.{held, arg, given}
 use Rattle.layout.specs.Fields.{rowFor, Complete}
 use Rattle.layout.proofs.Complete.{reach}
 use Rattle.sheet.proofs.Words.{complete-record}
-use Rattle.board.proofs.word_at.Statement.{statement}
-use Rattle.board.proofs.word_at.Tie as tie
+use Rattle.answering.proofs.word_at.Statement.{statement}
+use Rattle.answering.proofs.word_at.Tie as tie
 
 whole : (d : tie.Start) → Complete (rowFor (now (d .args .b))) (now (d .args .b))
 whole d = complete-record _ (d .pre .0)

@@ -7,13 +7,14 @@ use Rattle.sheet.specs.Reader.{foundNumber, foundPlace}
 use Rattle.sheet.specs.declared.answers.Found.{Found}
 use Rattle.sheet.specs.declared.answers.Found.the-variants.{Given, Refused as Withheld}
 use Rattle.sheet.specs.declared.answers.Reading.{Reading}
-use Rattle.board.specs.Board.{evaluationNumber, evaluationPlace, shownNumber, shownPlace, shownValue, intervalNumber, intervalPlace, intervalLow, intervalHigh, answered, ShownAs, IntervalBy, IntervalAs}
-use Rattle.board.specs.declared.answers.Evaluation.{Evaluation}
-use Rattle.board.specs.declared.answers.Evaluation.the-variants.{Answered, Refused}
-use Rattle.board.specs.declared.answers.Shown.{Shown}
-use Rattle.board.specs.declared.answers.Shown.the-variants.{Value, Refused as NotShown}
-use Rattle.board.specs.declared.answers.Interval.{Interval}
-use Rattle.board.specs.declared.answers.Interval.the-variants.{Between, Refused as NoInterval}
+use Rattle.answering.specs.Answering.{evaluationNumber, evaluationPlace, answered}
+use Rattle.answering.specs.declared.answers.Evaluation.{Evaluation}
+use Rattle.answering.specs.declared.answers.Evaluation.the-variants.{Answered, Refused}
+use Rattle.desk.specs.Desk.{shownNumber, shownPlace, shownValue, intervalNumber, intervalPlace, intervalLow, intervalHigh, ShownAs, IntervalBy, IntervalAs}
+use Rattle.desk.specs.declared.answers.Shown.{Shown}
+use Rattle.desk.specs.declared.answers.Shown.the-variants.{Value, Refused as NotShown}
+use Rattle.desk.specs.declared.answers.Interval.{Interval}
+use Rattle.desk.specs.declared.answers.Interval.the-variants.{Between, Refused as NoInterval}
 
 -- the door's refusal is the evaluation's
 pub shown-number : (s : ℕ) (e : Evaluation) (x : Shown) → ShownAs s e x → (shownNumber x ≡ evaluationNumber e) × (shownPlace x ≡ evaluationPlace e)

@@ -1,11 +1,11 @@
--- `board::interval` meets its contract: the ends of the record that stands at the place, or the place's refusal.
+-- `desk::interval` meets its contract: the ends of the record that stands at the place, or the place's refusal.
 use Rattle.whole.proofs.Basics.{_≡_, _∙_, sym, now, needs}
 use Rattle.sheet.specs.Reader.{formulaPlace, FormulaStands}
 use Rattle.sheet.specs.declared.answers.Place.the-variants.{At}
 use Rattle.sheet.proofs.Places.{place-standing}
-use Rattle.board.proofs.ReadingLaws.{ends-at, ends-refused}
-use Rattle.board.proofs.interval.Statement.{statement}
-use Rattle.board.proofs.interval.Tie as tie
+use Rattle.desk.proofs.ReadingLaws.{ends-at, ends-refused}
+use Rattle.desk.proofs.interval.Statement.{statement}
+use Rattle.desk.proofs.interval.Tie as tie
 
 -- the place that was answered, and what stands there
 module _ (c : tie.After-known-told) where

@@ -1,12 +1,12 @@
--- `board::shown` meets its contract: the answer's word by the door, or the same refusal.
+-- `desk::shown` meets its contract: the answer's word by the door, or the same refusal.
 use Rattle.whole.proofs.Basics.{refl, sym, subst, ℤ, w32, SFits, needs}
 use Rattle.whole.proofs.Held.{held, arg}
 use Rattle.door.specs.Exact.{Exactly}
-use Rattle.board.specs.Board.{ShownAs}
-use Rattle.board.specs.declared.answers.Evaluation.{Evaluation}
-use Rattle.board.specs.declared.answers.Shown.the-variants.{Value, Refused}
-use Rattle.board.proofs.shown.Statement.{statement}
-use Rattle.board.proofs.shown.Tie as tie
+use Rattle.answering.specs.declared.answers.Evaluation.{Evaluation}
+use Rattle.desk.specs.Desk.{ShownAs}
+use Rattle.desk.specs.declared.answers.Shown.the-variants.{Value, Refused}
+use Rattle.desk.proofs.shown.Statement.{statement}
+use Rattle.desk.proofs.shown.Tie as tie
 
 fits-word : (c : tie.After-struct-told) → SFits w32 (c .before .before .e .given .0 .0 .word)
 fits-word c = search (needs, c .struct-told .given)

@@ -6,8 +6,8 @@ use Rattle.formula.specs.declared.Formula.{Formula}
 use Rattle.formula.specs.Formula.{answerOf, Answerable}
 use Rattle.layout.specs.Fields.{wordsIn}
 use Rattle.sheet.specs.Reader.{Fit}
-use Rattle.board.specs.Board.{refused, answered, answerAt}
-use Rattle.board.specs.declared.answers.Evaluation.{Evaluation}
+use Rattle.answering.specs.Answering.{refused, answered, answerAt}
+use Rattle.answering.specs.declared.answers.Evaluation.{Evaluation}
 
 is-true : (b : Bool) → T b → b ≡ true
 is-true true t = refl

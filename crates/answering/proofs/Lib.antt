@@ -1,0 +1,2 @@
+-- Laws of a formula's interval.
+pub mod IntervalLaws

@@ -1,0 +1,2 @@
+-- What one formula answers at an argument.
+pub mod Answering

@@ -1,0 +1,44 @@
+// One formula at one argument: its answer inside its interval, or 10 outside it.
+ghost use mathlib.Core.Path.{_≡_};
+ghost use Rattle.word.specs.Words.{Scale};
+ghost use Rattle.formula.specs.Formula.{answerOf, Answerable};
+ghost use Rattle.table.specs.declared.Class.the-variants.{FormulaRecord};
+ghost use Rattle.layout.specs.Fields.{rowFor, shapeOf, wordsOf};
+ghost use Rattle.records.specs.Sheets.{RecordOf, FormulaBytes};
+ghost use Rattle.sheet.specs.Reader.{formulaIn};
+ghost use Rattle.answering.specs.Answering.{refused, answerAt};
+
+pub mod answers;
+
+use answers::Evaluation;
+use answers::Worked;
+use faults::Refusal;
+
+pub fn refused(number: u8) -> Evaluation
+    ensures { λ r. ⌜ r ≡ refused number ⌝ }
+{
+    Evaluation::Refused(Refusal { number, place: 0 })
+}
+
+fn word_at(b: &[u8], x: i32, s: u32) -> i32
+    requires { ⌜ RecordOf FormulaRecord (now b) × Answerable s (shapeOf (rowFor (now b)) (now b)) (wordsOf (rowFor (now b)) (now b)) x ⌝ }
+    ensures { λ r. ⌜ r ≡ answerOf s (shapeOf (rowFor (now (b .entry))) (now (b .entry))) (wordsOf (rowFor (now (b .entry))) (now (b .entry))) x ⌝ }
+{
+    let row = table::row_of(layout::code(b));
+    formula::answer(b, row.head, layout::shape_of(b, row), x, s)
+}
+
+// The formula's answer where x lies in its interval, both ends inside.
+pub fn answer_of(b: &[u8], x: i32, s: u32) -> Evaluation
+    requires { ⌜ Scale s × FormulaBytes s (now b) ⌝ }
+    ensures { λ r. ⌜ r ≡ answerAt s (formulaIn (now (b .entry))) x ⌝ }
+{
+    if x < layout::lo(b) {
+        return refused(10);
+    }
+    if layout::hi(b) < x {
+        return refused(10);
+    }
+    let word = word_at(b, x, s);
+    Evaluation::Answered(Worked { word })
+}

@@ -1,0 +1,6 @@
+-- Laws of the desk, and its promises, from `SameNumbers` on.
+pub mod ReadingLaws
+pub mod SameNumbers
+pub mod DoublesInside
+pub mod WhichRefusals
+pub mod Settled

@@ -1,0 +1,2 @@
+-- What a sheet, a number and a double answer, as doubles.
+pub mod Desk
