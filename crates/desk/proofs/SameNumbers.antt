@@ -24,13 +24,13 @@ shown-number s (Refused q) (Value x) p = absurd p
 shown-number s (Refused q) (NotShown r) p = (ap (λ (z : Refusal). z .number) p, ap (λ (z : Refusal). z .place) p)
 
 -- and its value the answer word's
-pub shown-value : (s : ℕ) (w : ℤ) (x : Shown) → ShownAs s (answered w) x → (shownNumber x ≡ 0) × Exactly s w (shownValue x)
-shown-value s w (Value x) p = (refl, p)
+pub shown-value : (s : ℕ) (w : ℤ) (x : Shown) → ShownAs s (answered w) x → (shownNumber x ≡ 0) × (shownPlace x ≡ 0) × Exactly s w (shownValue x)
+shown-value s w (Value x) p = (refl, refl, p)
 shown-value s w (NotShown r) p = absurd p
 
 -- the ends are those of the formula
-pub interval-ends : (s : ℕ) (f : Formula) (i : Interval) → IntervalBy s Given f i → (intervalNumber i ≡ 0) × Exactly s (f .lo) (intervalLow i) × Exactly s (f .hi) (intervalHigh i)
-interval-ends s f (Between e) p = (refl, p .0, p .1)
+pub interval-ends : (s : ℕ) (f : Formula) (i : Interval) → IntervalBy s Given f i → (intervalNumber i ≡ 0) × (intervalPlace i ≡ 0) × Exactly s (f .lo) (intervalLow i) × Exactly s (f .hi) (intervalHigh i)
+interval-ends s f (Between e) p = (refl, refl, p .0, p .1)
 interval-ends s f (NoInterval r) p = absurd p
 
 -- the interval's refusal is the reader's

@@ -3,7 +3,8 @@ use Rattle.whole.proofs.Basics.{_≡_, _∙_, ap, List, _++_, ℕ, _≤_, lengt
 use Rattle.records.specs.Sheets.{SheetOf}
 use Rattle.sheet.specs.declared.answers.FormulaCount.the-variants.{Count}
 use Rattle.sheet.proofs.AcceptedShape.{shape-count}
-use Rattle.lines.specs.Listing.{places, linesOf, countLine, listing}
+use Rattle.line.specs.Line.{countLine}
+use Rattle.lines.specs.Listing.{places, linesOf, listing}
 use Rattle.lines.proofs.LineLaws.{in-order, not-too-long}
 
 pub each-line : (c : ℕ) (bytes : List ℕ) (h : SheetOf places c bytes) → length bytes ≤ 8192 → listing bytes ≡ countLine c ++ linesOf (h .formulas)

@@ -16,7 +16,8 @@ use Rattle.sheet.specs.Reader.{countNumber, countValue, formulaCount, formulaIn
 use Rattle.sheet.proofs.AcceptedShape.{accepted-shape}
 use Rattle.sheet.proofs.Words.{complete-record}
 use Rattle.text.specs.Text.{text}
-use Rattle.lines.specs.Listing.{places, lineOf, linesFrom, linesOf, listingBy, listing}
+use Rattle.line.specs.Line.{lineOf}
+use Rattle.lines.specs.Listing.{places, linesFrom, linesOf, listingBy, listing}
 
 -- ---- n formula records stand one behind the other, from a place on
 

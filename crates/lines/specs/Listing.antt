@@ -4,54 +4,29 @@ use mathlib.Core.Path.{_≡_, refl}
 use mathlib.Core.List.{List, [], _∷_, _++_}
 use mathlib.Core.Bool.{Bool, true, false, cond}
 use lib.Dec.{ltb}
-use lib.IntN.{ℤ, pos, negsuc}
 use lib.ListN.{length, take, replicate}
 use Rattle.word.specs.Words.{unit}
 use Rattle.stored.specs.Numbers.{number2, number4}
 use Rattle.stored.specs.Words.{words}
-use Rattle.formula.specs.declared.Kind.{Kind}
-use Rattle.formula.specs.declared.Kind.the-variants.{Polynomial, Rational, Fraction, Root, NoFormula}
-use Rattle.formula.specs.declared.Formula.{Formula}
 use Rattle.table.specs.Table.{rows, firstRow, rowOf, piecesBy}
-use Rattle.layout.specs.Fields.{bytesAt, firstCount, fieldOf, shape, shapeOf, padded, formula, formulaOf}
+use Rattle.layout.specs.Fields.{bytesAt, firstCount, fieldOf, shapeOf, formulaOf}
 use Rattle.faults.specs.Faults.{frameFault, outside, countFault, sizeFault, lengthFault, startFault, scaleFault, orderFault, endFault, ownFault, intervalFault, wordsFault}
-use Rattle.faults.specs.declared.Refusal.{Refusal}
 use Rattle.records.specs.Records.{valueFault}
 use Rattle.walking.specs.Walking.{recordFault, faultAt, foundBy, ending, walkFrom, walkOf}
 use Rattle.sheet.specs.declared.answers.FormulaCount.{FormulaCount}
 use Rattle.sheet.specs.declared.answers.FormulaCount.the-variants.{Count, Refused}
 use Rattle.sheet.specs.Reader.{formulaCount, formulaIn, formulaAt}
-use Rattle.text.specs.Text.{text, digitsBy, decimal, signed}
+use Rattle.text.specs.Text.{text, digitsBy, decimal}
+use Rattle.line.specs.Line.{lineOf, countLine, refusalLine}
 
 -- a listing is of a sheet at so many binary places
 abbrev pub places : ℕ
 places = 24
 
-abbrev pub kindName : Kind → List ℕ
-kindName Polynomial = text "polynomial"
-kindName Rational = text "rational"
-kindName Fraction = text "fraction"
-kindName Root = text "root"
-kindName NoFormula = []
-
--- lo and hi as signed decimal words, and the line's end
-abbrev pub intervalText : ℤ → ℤ → List ℕ
-intervalText lo hi = text " " ++ signed lo ++ text " " ++ signed hi ++ text "\n"
-
--- number, kind name, lo and hi
-unfoldable pub lineOf : Formula → List ℕ
-lineOf f = decimal (f .number) ++ text " " ++ kindName (f .shape .kind) ++ intervalText (f .lo) (f .hi)
-
 -- in sheet order: the line of the formula at a place, and on by its record's length
 unfoldable pub linesFrom : ℕ → List ℕ → ℕ → List ℕ
 linesFrom zero bytes place = []
 linesFrom (suc n) bytes place = lineOf (formulaAt bytes place) ++ linesFrom n bytes (place + number4 bytes place)
-
-unfoldable pub countLine : ℕ → List ℕ
-countLine c = text "formulas " ++ decimal c ++ text "\n"
-
-unfoldable pub refusalLine : Refusal → List ℕ
-refusalLine r = text "refused " ++ decimal (r .number) ++ text " at " ++ decimal (r .place) ++ text "\n"
 
 -- the first formula stands behind the start record
 abbrev pub listingBy : List ℕ → FormulaCount → List ℕ
@@ -79,22 +54,6 @@ longest = (refl, refl, refl)
 
 word-of-one : unit places ≡ 16777216
 word-of-one = refl
-
-both-ends : intervalText (negsuc 0) (pos 10) ≡ text " -1 10\n"
-unfolding digitsBy decimal
-both-ends = refl
-
--- the kinds' names; a negative end
-names :
-    (lineOf (formula 2 (shape Rational 1 1 0) (pos 0) (pos 1) (padded [])) ≡ text "2 rational 0 1\n")
-    × (lineOf (formula 3 (shape Fraction 1 0 0) (pos 0) (pos 1) (padded [])) ≡ text "3 fraction 0 1\n")
-    × (lineOf (formula 4 (shape Root 0 0 0) (pos 0) (pos 1) (padded [])) ≡ text "4 root 0 1\n")
-unfolding lineOf digitsBy decimal
-names = (refl, refl, refl)
-
-negative-end : lineOf (formula 7 (shape Polynomial 1 0 0) (negsuc 33554431) (pos 33554432) (padded [])) ≡ text "7 polynomial -33554432 33554432\n"
-unfolding lineOf digitsBy decimal
-negative-end = refl
 
 -- the paper's own sheet, without its end record and with it
 abbrev front : List ℕ

@@ -2,9 +2,9 @@
 use Rattle.whole.proofs.Basics.{_≤_, arith, length, needs}
 use Rattle.text.specs.Text.{decimal}
 use Rattle.text.proofs.TextLaws.{behind, short}
-use Rattle.lines.specs.Listing.{countLine}
-use Rattle.lines.proofs.put_count.Statement.{statement}
-use Rattle.lines.proofs.put_count.Tie as tie
+use Rattle.line.specs.Line.{countLine}
+use Rattle.line.proofs.put_count.Statement.{statement}
+use Rattle.line.proofs.put_count.Tie as tie
 
 five : (c : tie.Start) → length (decimal (c .args .count)) ≤ 5
 five c = short 4 (c .args .count) (search needs)

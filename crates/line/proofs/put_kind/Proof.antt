@@ -1,8 +1,8 @@
 -- `put_kind` meets its contract: kind by kind, the name's own text.
 use Rattle.whole.proofs.Basics.{arith, needs}
 use Rattle.text.proofs.TextLaws.{begin, done}
-use Rattle.lines.proofs.put_kind.Statement.{statement}
-use Rattle.lines.proofs.put_kind.Tie as tie
+use Rattle.line.proofs.put_kind.Statement.{statement}
+use Rattle.line.proofs.put_kind.Tie as tie
 
 returns : tie.Need-returns
 returns c = (rw (c .before .before .before .before .before .enum-told .given .1) (c .before .before .put-text .ensures), omega arith)

@@ -2,9 +2,9 @@
 use Rattle.whole.proofs.Basics.{_≤_, arith, length, needs}
 use Rattle.text.specs.Text.{decimal}
 use Rattle.text.proofs.TextLaws.{behind, short}
-use Rattle.lines.specs.Listing.{refusalLine}
-use Rattle.lines.proofs.put_refusal.Statement.{statement}
-use Rattle.lines.proofs.put_refusal.Tie as tie
+use Rattle.line.specs.Line.{refusalLine}
+use Rattle.line.proofs.put_refusal.Statement.{statement}
+use Rattle.line.proofs.put_refusal.Tie as tie
 
 three : (c : tie.Start) → length (decimal (c .args .r .number)) ≤ 3
 three c = short 2 (c .args .r .number) (search needs)

@@ -1,8 +1,8 @@
 -- `put_interval` meets its contract: five texts one behind the other, at most 25 characters in all.
 use Rattle.whole.proofs.Basics.{arith, toZ-ofZ, needs}
 use Rattle.text.proofs.TextLaws.{behind}
-use Rattle.lines.proofs.put_interval.Statement.{statement}
-use Rattle.lines.proofs.put_interval.Tie as tie
+use Rattle.line.proofs.put_interval.Statement.{statement}
+use Rattle.line.proofs.put_interval.Tie as tie
 
 returns : tie.Need-returns
 returns c =

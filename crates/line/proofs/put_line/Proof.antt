@@ -3,9 +3,9 @@ use Rattle.whole.proofs.Basics.{_≤_, arith, length, w32, SFits, toZ-ofZ, need
 use Rattle.layout.specs.Fields.{formulaOf, shapeOf}
 use Rattle.text.specs.Text.{decimal}
 use Rattle.text.proofs.TextLaws.{behind, short}
-use Rattle.lines.specs.Listing.{lineOf}
-use Rattle.lines.proofs.put_line.Statement.{statement}
-use Rattle.lines.proofs.put_line.Tie as tie
+use Rattle.line.specs.Line.{lineOf}
+use Rattle.line.proofs.put_line.Statement.{statement}
+use Rattle.line.proofs.put_line.Tie as tie
 
 five : (c : tie.After-number) → length (decimal (c .number .result)) ≤ 5
 five c = short 4 (c .number .result) (search needs)

@@ -1,0 +1,1 @@
+-- The functions' proofs need no laws of their own.

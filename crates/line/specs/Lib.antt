@@ -1,0 +1,2 @@
+-- One line of a listing.
+pub mod Line
