@@ -29,7 +29,7 @@ is-within : Bounding → ℕ
 is-within (Within b) = 1
 is-within Beyond = 0
 
-beyond-not : {b : ℕ} → Beyond ≡ Within b → ⊥
+pub beyond-not : {b : ℕ} → Beyond ≡ Within b → ⊥
 unfolding is-within
 beyond-not e = absurd (omega (arith, ap is-within e))
 
@@ -60,6 +60,11 @@ within-is s A (c ∷ cs) b e =
     let q = next-out s A c (boundOf s A cs) b e in
     q .is ∙ ap (λ (k : ℕ). natAbs c + boundProduct s k A) (within-is s A cs (q .old) (q .was))
 
+pub within-most : (s A : ℕ) (ws : List ℤ) (b : ℕ) → boundOf s A ws ≡ Within b → b ≤ 2147483647
+unfolding boundOf held-in
+within-most s A [] b e = omega (arith, ap held-in e)
+within-most s A (c ∷ cs) b e = next-out s A c (boundOf s A cs) b e .most
+
 none : (s A k : ℕ) → bound s A (drop k []) ≤ 2147483647
 unfolding bound
 none s A zero = omega arith
@@ -68,7 +73,7 @@ none s A (suc k) = omega arith
 pub within-range : (s A : ℕ) (ws : List ℤ) (b : ℕ) → boundOf s A ws ≡ Within b → InRange s A ws
 unfolding boundOf
 within-range s A [] b e k = none s A k
-within-range s A (c ∷ cs) b e zero = omega (arith, within-is s A (c ∷ cs) b e, next-out s A c (boundOf s A cs) b e .most)
+within-range s A (c ∷ cs) b e zero = omega (arith, within-is s A (c ∷ cs) b e, within-most s A (c ∷ cs) b e)
 within-range s A (c ∷ cs) b e (suc k) = let q = next-out s A c (boundOf s A cs) b e in within-range s A cs (q .old) (q .was) k
 
 -- so every coefficient is a word
