@@ -1,8 +1,9 @@
--- Laws of formulas. `StaysInRange`, `Distance` and `CheckedByHand` hold promises.
+-- Laws of formulas. `StaysInRange`, `Distance`, `SameBothSides` and `CheckedByHand` hold promises.
 pub mod IntervalLaws
 pub mod SoundLaws
 pub mod StaysInRange
 pub mod ReadyLaws
 pub mod JudgedLaws
 pub mod Distance
+pub mod SameBothSides
 pub mod CheckedByHand

@@ -7,11 +7,13 @@ use Rattle.admission.specs.declared.Admission.the-variants.{Admitted}
 use Rattle.polynomial.specs.Polynomial.{PolynomialReady}
 use Rattle.polynomial.proofs.WalkLaws.{in-range-less}
 use Rattle.polynomial.proofs.StaysInRange.{polynomial-in-range}
+use Rattle.odd_even.specs.OddEven.{EvenReady, OddReady}
+use Rattle.odd_even.proofs.StaysInRange.{even-ready, odd-ready}
 use Rattle.rational.specs.Rational.{RationalReady}
 use Rattle.fraction.specs.Ready.{FractionReady}
 use Rattle.formula.specs.Formula.{mostOf, admissionBy, RootInterval, Answerable}
 use Rattle.formula.specs.declared.Kind.{Kind}
-use Rattle.formula.specs.declared.Kind.the-variants.{Polynomial, Rational, Fraction, Root}
+use Rattle.formula.specs.declared.Kind.the-variants.{Polynomial, Rational, Fraction, Root, Odd, Even}
 use Rattle.formula.specs.declared.Shape.{Shape}
 use Rattle.formula.proofs.SoundLaws.{counts-at, room-at, length-second}
 use Rattle.formula.proofs.StaysInRange.{x-most, x-word}
@@ -48,3 +50,13 @@ module _ (s : ℕ) (h : Shape) (ws : List ℤ) (x : ℤ) (a : Answerable s h ws 
 
   pub root-ready : h .kind ≡ Root → Rootable s x
   root-ready e = (a .scale, x-word s h ws x a, ≤ℤ-trans (subst (λ (j : Kind). RootInterval j (a .lo)) e (a .sound .rooted)) (a .above))
+
+  pub odd-formula-ready : h .kind ≡ Odd → OddReady s (take (h .p) ws) x
+  odd-formula-ready e =
+      let n = length-take-le (h .p) ws (room-at h (a .lo) (a .hi) ws (a .sound) Odd e) in
+      odd-ready s (mostOf (a .lo) (a .hi)) (take (h .p) ws) x (x-most s h ws x a) (a .scale) (x-word s h ws x a) (omega (arith, n, counts-at h (a .lo) (a .hi) ws (a .sound) Odd e)) (admitted-at Odd e)
+
+  pub even-formula-ready : h .kind ≡ Even → EvenReady s (take (h .p) ws) x
+  even-formula-ready e =
+      let n = length-take-le (h .p) ws (room-at h (a .lo) (a .hi) ws (a .sound) Even e) in
+      even-ready s (mostOf (a .lo) (a .hi)) (take (h .p) ws) x (x-most s h ws x a) (a .scale) (x-word s h ws x a) (omega (arith, n, counts-at h (a .lo) (a .hi) ws (a .sound) Even e)) (admitted-at Even e)

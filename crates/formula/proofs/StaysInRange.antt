@@ -6,11 +6,12 @@ use Rattle.root.proofs.RootLaws.{root-word}
 use Rattle.word.specs.Lists.{All}
 use Rattle.admission.specs.declared.Admission.the-variants.{Admitted}
 use Rattle.polynomial.proofs.StaysInRange.{polynomial-stays}
+use Rattle.odd_even.proofs.StaysInRange.{even-stays, odd-stays}
 use Rattle.rational.proofs.StaysInRange.{rational-stays}
 use Rattle.fraction.proofs.StaysInRange.{fraction-stays}
 use Rattle.formula.specs.Formula.{mostOf, numbersOf, numbersBy, divisorsOf, divisorsBy, admissionBy, Counted, wordCount, RootInterval, Answerable}
 use Rattle.formula.specs.declared.Kind.{Kind}
-use Rattle.formula.specs.declared.Kind.the-variants.{Polynomial, Rational, Fraction, Root, NoFormula}
+use Rattle.formula.specs.declared.Kind.the-variants.{Polynomial, Rational, Fraction, Root, Odd, Even, NoFormula}
 use Rattle.formula.specs.declared.Shape.{Shape}
 use Rattle.formula.proofs.SoundLaws.{length-second}
 use Rattle.formula.proofs.IntervalLaws.{most-bounds, most-word}
@@ -31,6 +32,8 @@ stays-by Rational s A p q mode ws lo x c w h l counts room rooted e =
     (r .numbers, r .divisors)
 stays-by Fraction s A p q mode ws lo x c w h l counts room rooted e = fraction-stays s A mode ws p x h e
 stays-by Root s A p q mode ws lo x c w h l counts room rooted e = ((root-word s x (c, w, ≤ℤ-trans rooted l), tt), tt)
+stays-by Odd s A p q mode ws lo x c w h l counts room rooted e = (odd-stays s A (take p ws) x h e, tt)
+stays-by Even s A p q mode ws lo x c w h l counts room rooted e = (even-stays s A (take p ws) x h e, tt)
 stays-by NoFormula s A p q mode ws lo x c w h l counts room rooted e = absurd counts
 
 pub formula-stays : (s : ℕ) (h : Shape) (ws : List ℤ) (x : ℤ) → Answerable s h ws x → All Word (numbersOf s h ws x) × All NotZero (divisorsOf s h ws x)

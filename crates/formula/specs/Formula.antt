@@ -7,19 +7,20 @@ use lib.Dec.{ltb}
 use lib.IntN.{ℤ, pos, negsuc, natAbs}
 use lib.Signed.{_≤ℤ_}
 use lib.ListN.{length, take, drop}
-use Rattle.word.specs.Rounded.{rounded}
+use Rattle.word.specs.Rounded.{rounded, roundedUp}
 use Rattle.word.specs.Words.{Word, Scale}
 use Rattle.root.specs.Root.{rootIn, rootWord}
 use Rattle.word.specs.Lists.{Words}
 use Rattle.stored.specs.Words.{words, Stretch}
 use Rattle.admission.specs.declared.Admission.{Admission}
 use Rattle.admission.specs.declared.Admission.the-variants.{Admitted, RangeLeft}
-use Rattle.polynomial.specs.Polynomial.{horner, polynomialNumbers, polynomialAdmission}
+use Rattle.polynomial.specs.Polynomial.{horner, polynomialNumbers, boundOf, polynomialAdmission}
+use Rattle.odd_even.specs.OddEven.{evenOf, oddOf, evenNumbers, oddNumbers, evenAdmission, oddAdmission}
 use Rattle.rational.specs.Rational.{rationalOf, rationalNumbers, rationalDivisors, rationalAdmission}
 use Rattle.fraction.specs.Fraction.{outwardNumbers, outwardDivisors, fractionOf, fractionNumbers, fractionDivisors}
 use Rattle.fraction.specs.Admission.{fractionAdmission}
 use Rattle.formula.specs.declared.Kind.{Kind}
-use Rattle.formula.specs.declared.Kind.the-variants.{Polynomial, Rational, Fraction, Root, NoFormula}
+use Rattle.formula.specs.declared.Kind.the-variants.{Polynomial, Rational, Fraction, Root, Odd, Even, NoFormula}
 use Rattle.formula.specs.declared.Shape.{Shape}
 
 -- ---- the answer at x, by the kind
@@ -28,6 +29,8 @@ answerBy Polynomial s p q mode ws x = horner s (take p ws) x
 answerBy Rational s p q mode ws x = rationalOf s (take p ws) (take q (drop p ws)) x
 answerBy Fraction s p q mode ws x = fractionOf s mode ws p x
 answerBy Root s p q mode ws x = rootWord s x
+answerBy Odd s p q mode ws x = oddOf s (take p ws) x
+answerBy Even s p q mode ws x = evenOf s (take p ws) x
 answerBy NoFormula s p q mode ws x = pos 0
 
 abbrev pub answerOf : ℕ → Shape → List ℤ → ℤ → ℤ
@@ -39,6 +42,8 @@ numbersBy Polynomial s p q mode ws x = polynomialNumbers s (take p ws) x
 numbersBy Rational s p q mode ws x = rationalNumbers s (take p ws) (take q (drop p ws)) x
 numbersBy Fraction s p q mode ws x = fractionNumbers s mode ws p x
 numbersBy Root s p q mode ws x = rootWord s x ∷ []
+numbersBy Odd s p q mode ws x = oddNumbers s (take p ws) x
+numbersBy Even s p q mode ws x = evenNumbers s (take p ws) x
 numbersBy NoFormula s p q mode ws x = []
 
 abbrev pub numbersOf : ℕ → Shape → List ℤ → ℤ → List ℤ
@@ -50,6 +55,8 @@ divisorsBy Polynomial s p q mode ws x = []
 divisorsBy Rational s p q mode ws x = rationalDivisors s (take q (drop p ws)) x
 divisorsBy Fraction s p q mode ws x = fractionDivisors s mode ws p x
 divisorsBy Root s p q mode ws x = []
+divisorsBy Odd s p q mode ws x = []
+divisorsBy Even s p q mode ws x = []
 divisorsBy NoFormula s p q mode ws x = []
 
 abbrev pub divisorsOf : ℕ → Shape → List ℤ → ℤ → List ℤ
@@ -65,6 +72,8 @@ admissionBy Polynomial s A p q mode ws = polynomialAdmission s A (take p ws)
 admissionBy Rational s A p q mode ws = rationalAdmission s A (take p ws) (take q (drop p ws))
 admissionBy Fraction s A p q mode ws = fractionAdmission s A mode ws p
 admissionBy Root s A p q mode ws = Admitted
+admissionBy Odd s A p q mode ws = oddAdmission s A (take p ws)
+admissionBy Even s A p q mode ws = evenAdmission s A (take p ws)
 admissionBy NoFormula s A p q mode ws = RangeLeft
 
 abbrev pub admissionOf : ℕ → Shape → ℤ → ℤ → List ℤ → Admission
@@ -76,6 +85,8 @@ Counted Polynomial p q mode = (1 ≤ p) × (p ≤ 16)
 Counted Rational p q mode = (1 ≤ p) × (p ≤ 12) × (1 ≤ q) × (q ≤ 12)
 Counted Fraction p q mode = (1 ≤ p) × (p ≤ 12) × (mode ≤ 2)
 Counted Root p q mode = Unit
+Counted Odd p q mode = (1 ≤ p) × (p ≤ 16)
+Counted Even p q mode = (1 ≤ p) × (p ≤ 16)
 Counted NoFormula p q mode = ⊥
 
 -- how many words a kind has
@@ -84,6 +95,8 @@ wordCount Polynomial p q = p
 wordCount Rational p q = p + q
 wordCount Fraction p q = p + p + 1
 wordCount Root p q = 0
+wordCount Odd p q = p
+wordCount Even p q = p
 wordCount NoFormula p q = 0
 
 -- the words of a formula that stand in bytes from a place on, and that the bytes reach so far
@@ -99,6 +112,8 @@ RootInterval Polynomial lo = Unit
 RootInterval Rational lo = Unit
 RootInterval Fraction lo = Unit
 RootInterval Root lo = pos 0 ≤ℤ lo
+RootInterval Odd lo = Unit
+RootInterval Even lo = Unit
 RootInterval NoFormula lo = Unit
 
 pub record Sound (h : Shape) (lo hi : ℤ) (ws : List ℤ) : Type 0 where
@@ -148,3 +163,17 @@ own-divisors :
     × (divisorsBy Fraction 24 2 0 2 tangent (pos 8388608) ≡ pos 50331648 ∷ pos 15379115 ∷ [])
 unfolding horner outwardDivisors rounded
 own-divisors = (refl, refl)
+
+-- odd and even are not each other: 1 - s/2 at a half, with s of 1/4, and c0 up to two, where odd's last product is M at most
+abbrev bend : List ℤ
+bend = pos 16777216 ∷ negsuc 8388607 ∷ []
+
+odd-and-even :
+    (answerBy Odd 24 2 0 0 bend (pos 8388608) ≡ pos 7340032)
+    × (answerBy Even 24 2 0 0 bend (pos 8388608) ≡ pos 14680064)
+    × (numbersBy Odd 24 2 0 0 bend (pos 8388608) ≡ pos 7340032 ∷ pos 4194304 ∷ negsuc 2097151 ∷ pos 14680064 ∷ pos 0 ∷ negsuc 8388607 ∷ [])
+    × (numbersBy Even 24 2 0 0 bend (pos 8388608) ≡ pos 4194304 ∷ negsuc 2097151 ∷ pos 14680064 ∷ pos 0 ∷ negsuc 8388607 ∷ [])
+    × (admissionBy Odd 24 33554432 1 0 0 (pos 1073741824 ∷ []) ≡ RangeLeft)
+    × (admissionBy Even 24 33554432 1 0 0 (pos 1073741824 ∷ []) ≡ Admitted)
+unfolding horner polynomialNumbers boundOf rounded roundedUp
+odd-and-even = (refl, refl, refl, refl, refl, refl)

@@ -8,10 +8,12 @@ pub enum Kind {
     Rational,
     Fraction,
     Root,
+    Odd,
+    Even,
     NoFormula,
 }
 
-// What a formula's stored words mean: p is the polynomial's count, the numerator's count or the depth; q is the divisor's count.
+// What a formula's stored words mean: p is the count of a polynomial, odd and even ones included, the numerator's count or the depth; q is the divisor's count.
 pub struct Shape {
     pub kind: Kind,
     pub p: u16,
@@ -49,6 +51,8 @@ pub fn answer(b: &[u8], at: usize, shape: Shape, x: i32, s: u32) -> i32
         Kind::Rational => rational::answer(b, at, p, shape.q as usize, x, s),
         Kind::Fraction => fraction::answer(b, at, p, shape.mode as u32, x, s),
         Kind::Root => root::root(x, s),
+        Kind::Odd => odd_even::odd(b, at, p, x, s),
+        Kind::Even => odd_even::even(b, at, p, x, s),
         Kind::NoFormula => 0,
     }
 }

@@ -1,16 +1,17 @@
 -- `formula::answer` meets its contract: each kind's own answer, over as many words as the kind has.
-use Rattle.whole.proofs.Basics.{_≡_, _∙_, sym, ap, ap₂, subst, List, ℕ, _+_, _*_, take, drop, ℤ, w32, needs}
+use Rattle.whole.proofs.Basics.{_≡_, _∙_, refl, sym, ap, ap₂, subst, List, ℕ, _+_, _*_, take, drop, ℤ, w32, needs}
 use Rattle.whole.proofs.Held.{back, held, arg, given}
 use Rattle.root.specs.Root.{Rootable}
 use Rattle.stored.specs.Words.{words, Stretch}
 use Rattle.stored.proofs.WordsLaws.{words-all, words-take, words-drop}
 use Rattle.polynomial.specs.Polynomial.{horner, PolynomialReady}
+use Rattle.odd_even.specs.OddEven.{evenOf, oddOf, EvenReady, OddReady}
 use Rattle.rational.specs.Rational.{rationalOf, RationalReady}
 use Rattle.fraction.specs.Ready.{FractionReady}
 use Rattle.formula.specs.Formula.{answerBy, answerOf, wordCount, storedWords}
 use Rattle.formula.specs.declared.Kind.{Kind}
-use Rattle.formula.specs.declared.Kind.the-variants.{Polynomial, Rational, Fraction, Root, NoFormula}
-use Rattle.formula.proofs.ReadyLaws.{polynomial-ready, rational-ready, fraction-ready, root-ready}
+use Rattle.formula.specs.declared.Kind.the-variants.{Polynomial, Rational, Fraction, Root, Odd, Even, NoFormula}
+use Rattle.formula.proofs.ReadyLaws.{polynomial-ready, rational-ready, fraction-ready, root-ready, odd-formula-ready, even-formula-ready}
 use Rattle.formula.proofs.answer.Statement.{statement}
 use Rattle.formula.proofs.answer.Tie as tie
 
@@ -40,9 +41,9 @@ module _ (d : tie.Start) where
   ws-is : (k : Kind) → d .args .shape .kind ≡ k → ws ≡ words bytes place (wordCount k first second)
   ws-is k e = ap (λ (j : Kind). words bytes place (wordCount j first second)) e
 
-  -- a rational's two lists, and a polynomial's one
-  one-list : d .args .shape .kind ≡ Polynomial → take first ws ≡ words bytes place first
-  one-list e = ap (take first) (ws-is Polynomial e) ∙ words-all bytes place first
+  -- a rational's two lists, and the one of a kind whose first count is that of its words
+  one-list : (k : Kind) → wordCount k first second ≡ first → d .args .shape .kind ≡ k → take first ws ≡ words bytes place first
+  one-list k n e = ap (take first) (ws-is k e ∙ ap (words bytes place) n) ∙ words-all bytes place first
 
   top : d .args .shape .kind ≡ Rational → take first ws ≡ words bytes place first
   top e = ap (take first) (ws-is Rational e) ∙ words-take bytes place first second
@@ -59,7 +60,7 @@ answer-requires c κs =
     let d = c .before .before .before .before in
     let a = d .args in
     let e = c .enum-told .given .1 in
-    (reach d Polynomial e, subst (λ (l : List ℤ). PolynomialReady (a .s) l (back w32 (a .x))) (one-list d e) (subst (PolynomialReady (a .s) (take (first d) (ws d))) (sym (x-is d)) (polynomial-ready (a .s) (a .shape) (ws d) (a .x) (d .pre .1) e)))
+    (reach d Polynomial e, subst (λ (l : List ℤ). PolynomialReady (a .s) l (back w32 (a .x))) (one-list d Polynomial refl e) (subst (PolynomialReady (a .s) (take (first d) (ws d))) (sym (x-is d)) (polynomial-ready (a .s) (a .shape) (ws d) (a .x) (d .pre .1) e)))
 
 answer-requires-2 : tie.Need-answer-requires-2
 answer-requires-2 c κs =
@@ -85,12 +86,26 @@ root-requires c κs =
     let a = d .args in
     subst (Rootable (a .s)) (sym (x-is d)) (root-ready (a .s) (a .shape) (ws d) (a .x) (d .pre .1) (c .enum-told4 .given .1))
 
+odd-requires : tie.Need-odd-requires
+odd-requires c κs =
+    let d = c .before .before .before .before in
+    let a = d .args in
+    let e = c .enum-told5 .given .1 in
+    (reach d Odd e, rw (x-is d, ← one-list d Odd refl e) (odd-formula-ready (a .s) (a .shape) (ws d) (a .x) (d .pre .1) e))
+
+even-requires : tie.Need-even-requires
+even-requires c κs =
+    let d = c .before .before .before .before in
+    let a = d .args in
+    let e = c .enum-told6 .given .1 in
+    (reach d Even e, rw (x-is d, ← one-list d Even refl e) (even-formula-ready (a .s) (a .shape) (ws d) (a .x) (d .pre .1) e))
+
 returns : tie.Need-returns
 returns c =
     let b = c .before in
     let d = b .before .before .before .before in
     let e = b .enum-told .given .1 in
-    held (given {w = w32} (c .answer .ok)) ∙ c .answer .ensures ∙ ap (λ (l : List ℤ). horner (d .args .s) l (back w32 (d .args .x))) (sym (one-list d e)) ∙ whole d Polynomial e
+    held (given {w = w32} (c .answer .ok)) ∙ c .answer .ensures ∙ ap (λ (l : List ℤ). horner (d .args .s) l (back w32 (d .args .x))) (sym (one-list d Polynomial refl e)) ∙ whole d Polynomial e
 
 returns-2 : tie.Need-returns-2
 returns-2 c =
@@ -112,7 +127,21 @@ returns-4 c =
     held (given {w = w32} (c .root .ok)) ∙ c .root .ensures ∙ whole (b .before .before .before .before) Root (b .enum-told4 .given .1)
 
 returns-5 : tie.Need-returns-5
-returns-5 c = whole (c .before .before .before .before) NoFormula (c .enum-told5 .given .1)
+returns-5 c =
+    let b = c .before in
+    let d = b .before .before .before .before in
+    let e = b .enum-told5 .given .1 in
+    held (given {w = w32} (c .odd .ok)) ∙ c .odd .ensures ∙ ap (λ (l : List ℤ). oddOf (d .args .s) l (back w32 (d .args .x))) (sym (one-list d Odd refl e)) ∙ whole d Odd e
+
+returns-6 : tie.Need-returns-6
+returns-6 c =
+    let b = c .before in
+    let d = b .before .before .before .before in
+    let e = b .enum-told6 .given .1 in
+    held (given {w = w32} (c .even .ok)) ∙ c .even .ensures ∙ ap (λ (l : List ℤ). evenOf (d .args .s) l (back w32 (d .args .x))) (sym (one-list d Even refl e)) ∙ whole d Even e
+
+returns-7 : tie.Need-returns-7
+returns-7 c = whole (c .before .before .before .before) NoFormula (c .enum-told7 .given .1)
 
 pub answer-spec : {M : Type 1} → statement M
 answer-spec =
@@ -130,8 +159,14 @@ answer-spec =
     (λ c. search needs)
     root-requires
     (λ c. search needs)
+    odd-requires
+    (λ c. search needs)
+    even-requires
+    (λ c. search needs)
     returns
     returns-2
     returns-3
     returns-4
-    returns-5)
+    returns-5
+    returns-6
+    returns-7)
