@@ -4,7 +4,7 @@ use Rattle.whole.proofs.Basics.{_≡_, refl, subst, Bool, true, false, cond, no
 use mathlib.Core.Bool.{_||_}
 use Rattle.stored.specs.Numbers.{number4}
 use Rattle.formula.specs.declared.Kind.{Kind}
-use Rattle.formula.specs.declared.Kind.the-variants.{Polynomial, Rational, Fraction, Root, NoFormula}
+use Rattle.formula.specs.declared.Kind.the-variants.{Polynomial, Rational, Fraction, Root, Odd, Even, NoFormula}
 use Rattle.formula.specs.declared.Shape.{Shape}
 use Rattle.table.specs.declared.Field.{Field}
 use Rattle.table.specs.declared.Row.{Row}
@@ -113,6 +113,8 @@ module _ (l : List ℕ) where
     kind-set Rational lo = none
     kind-set Fraction lo = none
     kind-set Root lo = test (ltZ lo (pos 0)) six none
+    kind-set Odd lo = none
+    kind-set Even lo = none
     kind-set NoFormula lo = none
 
     pub own-set : (r : Row) (h : Shape) (lo hi : ℤ) → Fault (ownFault r h lo hi)

@@ -10,7 +10,7 @@ use lib.Signed.{ltZ}
 use Rattle.word.specs.Words.{largest}
 use Rattle.stored.specs.Numbers.{number2, number4}
 use Rattle.formula.specs.declared.Kind.{Kind}
-use Rattle.formula.specs.declared.Kind.the-variants.{Polynomial, Rational, Fraction, Root, NoFormula}
+use Rattle.formula.specs.declared.Kind.the-variants.{Polynomial, Rational, Fraction, Root, Odd, Even, NoFormula}
 use Rattle.formula.specs.declared.Shape.{Shape}
 use Rattle.table.specs.declared.Field.{Field}
 use Rattle.table.specs.declared.Row.{Row}
@@ -72,6 +72,8 @@ kindFault Polynomial lo = 0
 kindFault Rational lo = 0
 kindFault Fraction lo = 0
 kindFault Root lo = cond (ltZ lo (pos 0)) 6 0
+kindFault Odd lo = 0
+kindFault Even lo = 0
 kindFault NoFormula lo = 0
 
 -- 6 of all but the words: the interval, mode above 2, the kind's own
@@ -151,8 +153,13 @@ lo-above-hi = (refl, refl, refl)
 root-from-zero : (kindFault Root (negsuc 0) ≡ 6) × (kindFault Root (pos 0) ≡ 0)
 root-from-zero = (refl, refl)
 
-others-below-zero : (kindFault Polynomial (negsuc 0) ≡ 0) × (kindFault Rational (negsuc 0) ≡ 0) × (kindFault Fraction (negsuc 0) ≡ 0)
-others-below-zero = (refl, refl, refl)
+others-below-zero :
+    (kindFault Polynomial (negsuc 0) ≡ 0)
+    × (kindFault Rational (negsuc 0) ≡ 0)
+    × (kindFault Fraction (negsuc 0) ≡ 0)
+    × (kindFault Odd (negsuc 0) ≡ 0)
+    × (kindFault Even (negsuc 0) ≡ 0)
+others-below-zero = (refl, refl, refl, refl, refl)
 
 modes : (ownFault (rowOf 0x0012) (shape Fraction 1 0 2) (pos 0) (pos 0) ≡ 0) × (ownFault (rowOf 0x0012) (shape Fraction 1 0 3) (pos 0) (pos 0) ≡ 6)
 unfolding rows firstRow rowOf outside intervalFault ownFault

@@ -115,6 +115,8 @@ fn kind_fault(kind: Kind, lo: i32) -> u8
             }
             0
         }
+        Kind::Odd => 0,
+        Kind::Even => 0,
         Kind::NoFormula => 0,
     }
 }

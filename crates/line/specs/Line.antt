@@ -4,7 +4,7 @@ use mathlib.Core.Path.{_≡_, refl}
 use mathlib.Core.List.{List, [], _++_}
 use lib.IntN.{ℤ, pos, negsuc}
 use Rattle.formula.specs.declared.Kind.{Kind}
-use Rattle.formula.specs.declared.Kind.the-variants.{Polynomial, Rational, Fraction, Root, NoFormula}
+use Rattle.formula.specs.declared.Kind.the-variants.{Polynomial, Rational, Fraction, Root, Odd, Even, NoFormula}
 use Rattle.formula.specs.declared.Formula.{Formula}
 use Rattle.layout.specs.Fields.{shape, padded, formula}
 use Rattle.faults.specs.declared.Refusal.{Refusal}
@@ -15,6 +15,8 @@ kindName Polynomial = text "polynomial"
 kindName Rational = text "rational"
 kindName Fraction = text "fraction"
 kindName Root = text "root"
+kindName Odd = text "odd"
+kindName Even = text "even"
 kindName NoFormula = []
 
 -- lo and hi as signed decimal words, and the line's end
@@ -41,8 +43,10 @@ names :
     (lineOf (formula 2 (shape Rational 1 1 0) (pos 0) (pos 1) (padded [])) ≡ text "2 rational 0 1\n")
     × (lineOf (formula 3 (shape Fraction 1 0 0) (pos 0) (pos 1) (padded [])) ≡ text "3 fraction 0 1\n")
     × (lineOf (formula 4 (shape Root 0 0 0) (pos 0) (pos 1) (padded [])) ≡ text "4 root 0 1\n")
+    × (lineOf (formula 5 (shape Odd 1 0 0) (pos 0) (pos 1) (padded [])) ≡ text "5 odd 0 1\n")
+    × (lineOf (formula 6 (shape Even 1 0 0) (pos 0) (pos 1) (padded [])) ≡ text "6 even 0 1\n")
 unfolding lineOf digitsBy decimal
-names = (refl, refl, refl)
+names = (refl, refl, refl, refl, refl)
 
 negative-end : lineOf (formula 7 (shape Polynomial 1 0 0) (negsuc 33554431) (pos 33554432) (padded [])) ≡ text "7 polynomial -33554432 33554432\n"
 unfolding lineOf digitsBy decimal

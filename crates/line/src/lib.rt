@@ -17,6 +17,8 @@ fn put_kind(out: &mut [u8], at: usize, kind: Kind) -> usize
         Kind::Rational => text::put_text(out, at, b"rational"),
         Kind::Fraction => text::put_text(out, at, b"fraction"),
         Kind::Root => text::put_text(out, at, b"root"),
+        Kind::Odd => text::put_text(out, at, b"odd"),
+        Kind::Even => text::put_text(out, at, b"even"),
         Kind::NoFormula => at,
     }
 }

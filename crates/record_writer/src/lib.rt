@@ -70,6 +70,8 @@ pub fn write_record(f: Formula, out: &mut [u8], s: u32) -> Writing
         table::RATIONAL => put_checked(f, table::RATIONAL, out, s),
         table::FRACTION => put_checked(f, table::FRACTION, out, s),
         table::ROOT => put_checked(f, table::ROOT, out, s),
+        table::ODD => put_checked(f, table::ODD, out, s),
+        table::EVEN => put_checked(f, table::EVEN, out, s),
         _ => answers::refused_by(3),
     }
 }

@@ -2,7 +2,7 @@
 use Rattle.whole.proofs.Basics.{_≡_, _∙_, refl, sym, ap, List, ℕ, arith}
 use Rattle.stored.specs.Words.{words}
 use Rattle.formula.specs.declared.Kind.{Kind}
-use Rattle.formula.specs.declared.Kind.the-variants.{Polynomial, Rational, Fraction, Root, NoFormula}
+use Rattle.formula.specs.declared.Kind.the-variants.{Polynomial, Rational, Fraction, Root, Odd, Even, NoFormula}
 use Rattle.table.specs.Table.{rows, firstRow, rowOf}
 use Rattle.table.specs.Codes.{codeFor}
 use Rattle.table.proofs.CodeLaws.{code-found, code-again, formula-kind}
@@ -25,9 +25,9 @@ no-words s r b seen count next e =
     none : 0 ≡ orElse (wordsFault (wordsOf r b)) (admissionFault s (shapeOf r b) (loOf b) (hiOf b) (wordsOf r b))
     none = rw e refl
 
-pub no-formula : (c : ℕ) → (c ≡ 0x0010 → ⊥) → (c ≡ 0x0011 → ⊥) → (c ≡ 0x0012 → ⊥) → (c ≡ 0x0013 → ⊥) → onlyFormula (rowOf c .class) ≡ 3
+pub no-formula : (c : ℕ) → (c ≡ 0x0010 → ⊥) → (c ≡ 0x0011 → ⊥) → (c ≡ 0x0012 → ⊥) → (c ≡ 0x0013 → ⊥) → (c ≡ 0x0014 → ⊥) → (c ≡ 0x0015 → ⊥) → onlyFormula (rowOf c .class) ≡ 3
 unfolding codeFor firstRow rows
-no-formula c p q f r = at (rowOf c .class) refl
+no-formula c p q f r o v = at (rowOf c .class) refl
   where
     -- a formula's kind names its code
     by : (k : Kind) → rowOf c .kind ≡ k → rowOf c .class ≡ FormulaRecord → codeFor k ≡ c → ⊥
@@ -35,6 +35,8 @@ no-formula c p q f r = at (rowOf c .class) refl
     by Rational e g n = q (sym n)
     by Fraction e g n = f (sym n)
     by Root e g n = r (sym n)
+    by Odd e g n = o (sym n)
+    by Even e g n = v (sym n)
     by NoFormula e g n = formula-kind c g e
 
     at : (k : Class) → rowOf c .class ≡ k → onlyFormula k ≡ 3

@@ -6,7 +6,7 @@ use Rattle.admission.specs.Admission.{admissionNumber}
 use Rattle.admission.specs.declared.Admission.{Admission}
 use Rattle.admission.specs.declared.Admission.the-variants.{Admitted, RangeLeft, DivisorZero}
 use Rattle.formula.specs.declared.Kind.{Kind}
-use Rattle.formula.specs.declared.Kind.the-variants.{Polynomial, Rational, Fraction, Root, NoFormula}
+use Rattle.formula.specs.declared.Kind.the-variants.{Polynomial, Rational, Fraction, Root, Odd, Even, NoFormula}
 use Rattle.formula.specs.declared.Shape.{Shape}
 use Rattle.formula.specs.Formula.{RootInterval, Sound, wordCount, admissionOf}
 use Rattle.table.specs.declared.Class.the-variants.{FormulaRecord}
@@ -28,6 +28,8 @@ rooted Polynomial lo e = tt
 rooted Rational lo e = tt
 rooted Fraction lo e = tt
 rooted Root lo e = not-below lo (pos 0) (passed (ltZ lo (pos 0)) 6 0 (λ q. omega arith) e .0)
+rooted Odd lo e = tt
+rooted Even lo e = tt
 rooted NoFormula lo e = tt
 
 -- of any fields with counts in their ranges: the record writer has them from its caller

@@ -9,7 +9,7 @@ ghost use Rattle.stored.specs.Words.{words, Stretch};
 ghost use Rattle.formula.specs.Formula.{mostOf};
 ghost use Rattle.table.specs.Table.{rowOf};
 ghost use Rattle.table.specs.Codes.{codeFor};
-ghost use Rattle.formula.specs.declared.Kind.the-variants.{Polynomial, Rational, Fraction, Root};
+ghost use Rattle.formula.specs.declared.Kind.the-variants.{Polynomial, Rational, Fraction, Root, Odd, Even};
 ghost use Rattle.table.specs.Rule.{Ruled};
 ghost use Rattle.table.specs.declared.Class.the-variants.{FormulaRecord};
 ghost use Rattle.layout.specs.Fields.{loOf, hiOf, rowFor};
@@ -130,6 +130,34 @@ fn root_fault(b: &[u8], seen: u16, count: u16, next: u32) -> u8
     front_fault(b, table::row_of(table::ROOT), seen, count, next)
 }
 
+fn odd_fault(b: &[u8], seen: u16, count: u16, next: u32, s: u32) -> u8
+    requires { ⌜ Scale s × (length (now b) ≤ 120) ⌝ }
+    ensures { λ r. ⌜ r ≡ formulaFault s (rowOf (codeFor Odd)) (now (b .entry)) seen count next ⌝ }
+{
+    let row = table::row_of(table::ODD);
+    let f = front_fault(b, row, seen, count, next);
+    if f != 0 {
+        return f;
+    }
+    let shape = layout::shape_of(b, row);
+    let found = odd_even::admit_odd(b, row.head, shape.p as usize, most(b), s);
+    admission_fault(b, row.head, found)
+}
+
+fn even_fault(b: &[u8], seen: u16, count: u16, next: u32, s: u32) -> u8
+    requires { ⌜ Scale s × (length (now b) ≤ 120) ⌝ }
+    ensures { λ r. ⌜ r ≡ formulaFault s (rowOf (codeFor Even)) (now (b .entry)) seen count next ⌝ }
+{
+    let row = table::row_of(table::EVEN);
+    let f = front_fault(b, row, seen, count, next);
+    if f != 0 {
+        return f;
+    }
+    let shape = layout::shape_of(b, row);
+    let found = odd_even::admit_even(b, row.head, shape.p as usize, most(b), s);
+    admission_fault(b, row.head, found)
+}
+
 // 3 for a record that is no formula; then all that a formula record is refused for.
 pub fn formula_fault(b: &[u8], seen: u16, count: u16, next: u32, s: u32) -> u8
     requires { ⌜ Scale s × (8 ≤ length (now b)) × (length (now b) ≤ 120) ⌝ }
@@ -140,6 +168,8 @@ pub fn formula_fault(b: &[u8], seen: u16, count: u16, next: u32, s: u32) -> u8
         table::RATIONAL => rational_fault(b, seen, count, next, s),
         table::FRACTION => fraction_fault(b, seen, count, next, s),
         table::ROOT => root_fault(b, seen, count, next),
+        table::ODD => odd_fault(b, seen, count, next, s),
+        table::EVEN => even_fault(b, seen, count, next, s),
         _ => 3,
     }
 }

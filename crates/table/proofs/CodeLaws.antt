@@ -3,7 +3,7 @@ use Rattle.whole.proofs.Basics.{_≡_, _∙_, refl, sym, ap, subst, Bool, true,
 use mathlib.Core.Bool.{_&&_}
 use lib.Dec.{eqb→eq, ltb→lt}
 use Rattle.formula.specs.declared.Kind.{Kind}
-use Rattle.formula.specs.declared.Kind.the-variants.{Polynomial, Rational, Fraction, Root, NoFormula}
+use Rattle.formula.specs.declared.Kind.the-variants.{Polynomial, Rational, Fraction, Root, Odd, Even, NoFormula}
 use Rattle.table.specs.Table.{rows, unknown, firstRow, rowOf}
 use Rattle.table.specs.Codes.{ofClass, ofKind, codeFor, startRow, endRow}
 use Rattle.table.specs.Rule.{Framing, Known}
@@ -43,6 +43,8 @@ kind-of-row Polynomial = refl
 kind-of-row Rational = refl
 kind-of-row Fraction = refl
 kind-of-row Root = refl
+kind-of-row Odd = refl
+kind-of-row Even = refl
 kind-of-row NoFormula = refl
 
 pub code-of-row : (k : Kind) → rowOf (codeFor k) .code ≡ codeFor k

@@ -4,7 +4,7 @@ use mathlib.Core.Bool.{_&&_}
 use native.Mathlib.Nat.{mul-le-mul-left, mul-zero}
 use lib.Dec.{eqb→eq}
 use Rattle.formula.specs.declared.Kind.{Kind}
-use Rattle.formula.specs.declared.Kind.the-variants.{Polynomial, Rational, Fraction, Root, NoFormula}
+use Rattle.formula.specs.declared.Kind.the-variants.{Polynomial, Rational, Fraction, Root, Odd, Even, NoFormula}
 use Rattle.table.specs.Table.{rows, field, none, firstRow, rowOf, piecesBy, lengthBy}
 use Rattle.table.specs.Codes.{codeFor, startRow, endRow}
 use Rattle.table.specs.Rule.{leastHead, countField, Meets, Many, Framing, Bare, Ruled}
@@ -36,6 +36,8 @@ met Polynomial e p q m a b d = a
 met Rational e p q m a b d = (a .0, a .1, b .0, b .1)
 met Fraction e p q m a b d = (a .0, a .1, d .1)
 met Root e p q m a b d = tt
+met Odd e p q m a b d = a
+met Even e p q m a b d = a
 met NoFormula e p q m a b d = absurd (let z : _≡_ {A = ℕ} 0 1 = cc in omega arith)
 
 many : (k : Kind) → Many (rowOf (codeFor k))
@@ -44,6 +46,8 @@ many Polynomial p q = omega arith
 many Rational p q = omega arith
 many Fraction p q = omega arith
 many Root p q = omega arith
+many Odd p q = omega arith
+many Even p q = omega arith
 many NoFormula p q = omega arith
 
 bare : (c : ℕ) → Framing (rowOf c .class) → Bare (rowOf c)

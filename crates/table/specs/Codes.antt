@@ -4,7 +4,7 @@ use mathlib.Core.Path.{_≡_, refl}
 use mathlib.Core.Bool.{Bool, true, false, _&&_}
 use lib.Dec.{eqb}
 use Rattle.formula.specs.declared.Kind.{Kind}
-use Rattle.formula.specs.declared.Kind.the-variants.{Polynomial, Rational, Fraction, Root, NoFormula}
+use Rattle.formula.specs.declared.Kind.the-variants.{Polynomial, Rational, Fraction, Root, Odd, Even, NoFormula}
 use Rattle.table.specs.declared.Class.{Class}
 use Rattle.table.specs.declared.Class.the-variants.{StartRecord, FormulaRecord, EndRecord, Unknown}
 use Rattle.table.specs.declared.Row.{Row}
@@ -23,6 +23,8 @@ kindTag Polynomial = 1
 kindTag Rational = 2
 kindTag Fraction = 3
 kindTag Root = 4
+kindTag Odd = 5
+kindTag Even = 6
 
 abbrev pub ofClass : Class → Row → Bool
 ofClass k r = eqb (classTag (r .class)) (classTag k)
@@ -41,9 +43,15 @@ unfoldable pub endRow : Row
 endRow = firstRow (ofClass EndRecord) rows
 
 -- ---- worked examples: the paper's codes
-formula-codes : (codeFor Polynomial ≡ 0x0010) × (codeFor Rational ≡ 0x0011) × (codeFor Fraction ≡ 0x0012) × (codeFor Root ≡ 0x0013)
+formula-codes :
+    (codeFor Polynomial ≡ 0x0010)
+    × (codeFor Rational ≡ 0x0011)
+    × (codeFor Fraction ≡ 0x0012)
+    × (codeFor Root ≡ 0x0013)
+    × (codeFor Odd ≡ 0x0014)
+    × (codeFor Even ≡ 0x0015)
 unfolding rows firstRow codeFor
-formula-codes = (refl, refl, refl, refl)
+formula-codes = (refl, refl, refl, refl, refl, refl)
 
 no-formula-code : codeFor NoFormula ≡ 0
 unfolding rows firstRow codeFor

@@ -5,7 +5,7 @@ use mathlib.Core.List.{List, [], _∷_}
 use mathlib.Core.Bool.{Bool, cond}
 use lib.Dec.{eqb}
 use Rattle.formula.specs.declared.Kind.{Kind}
-use Rattle.formula.specs.declared.Kind.the-variants.{Polynomial, Rational, Fraction, Root, NoFormula}
+use Rattle.formula.specs.declared.Kind.the-variants.{Polynomial, Rational, Fraction, Root, Odd, Even, NoFormula}
 use Rattle.table.specs.declared.Class.{Class}
 use Rattle.table.specs.declared.Class.the-variants.{StartRecord, FormulaRecord, EndRecord, Unknown}
 use Rattle.table.specs.declared.Field.{Field}
@@ -25,14 +25,20 @@ framingCount = field 6 1 64 0
 abbrev pub row : ℕ → Class → Kind → ℕ → ℕ → ℕ → Field → Field → Field → Field → Row
 row c s k h w b p q m n = record { code = c; class = s; kind = k; head = h; width = w; base = b; p = p; q = q; mode = m; count = n }
 
+-- a polynomial: its coefficients are its pieces, as many as its length says. An odd and an even one are laid out as it is
+abbrev pub polynomialRow : ℕ → Kind → Row
+polynomialRow c k = row c FormulaRecord k 16 4 0 (field 0 1 16 1) none none none
+
 -- code, class, kind, bytes in front of the pieces, bytes of a piece, pieces besides those of p and q; p, q, mode and count
 unfoldable pub rows : List Row
 rows =
     row 0x0001 StartRecord NoFormula 8 0 0 none none none framingCount
-    ∷ row 0x0010 FormulaRecord Polynomial 16 4 0 (field 0 1 16 1) none none none
+    ∷ polynomialRow 0x0010 Polynomial
     ∷ row 0x0011 FormulaRecord Rational 20 4 0 (field 16 1 12 1) (field 18 1 12 1) none none
     ∷ row 0x0012 FormulaRecord Fraction 20 4 1 (field 18 1 12 2) none (field 16 0 2 0) none
     ∷ row 0x0013 FormulaRecord Root 16 4 0 none none none none
+    ∷ polynomialRow 0x0014 Odd
+    ∷ polynomialRow 0x0015 Even
     ∷ row 0xffff EndRecord NoFormula 8 0 0 none none none framingCount
     ∷ []
 
@@ -79,6 +85,14 @@ root-line : (rowOf 0x0013 .class ≡ FormulaRecord) × (rowOf 0x0013 .kind ≡ R
 unfolding rows firstRow rowOf piecesBy
 root-line = (refl, refl, refl)
 
+odd-line : (rowOf 0x0014 .class ≡ FormulaRecord) × (rowOf 0x0014 .kind ≡ Odd) × (lengthBy (rowOf 0x0014) 1 0 ≡ 20) × (lengthBy (rowOf 0x0014) 16 0 ≡ 80)
+unfolding rows firstRow rowOf piecesBy
+odd-line = (refl, refl, refl, refl)
+
+even-line : (rowOf 0x0015 .class ≡ FormulaRecord) × (rowOf 0x0015 .kind ≡ Even) × (lengthBy (rowOf 0x0015) 1 0 ≡ 20) × (lengthBy (rowOf 0x0015) 16 0 ≡ 80)
+unfolding rows firstRow rowOf piecesBy
+even-line = (refl, refl, refl, refl)
+
 end-line : (rowOf 0xffff .class ≡ EndRecord) × (rowOf 0xffff .kind ≡ NoFormula) × (lengthBy (rowOf 0xffff) 0 0 ≡ 8)
 unfolding rows firstRow rowOf piecesBy
 end-line = (refl, refl, refl)
@@ -89,7 +103,7 @@ unfolding rows firstRow rowOf
 root-row = refl
 
 -- unknown kinds: below, between and above the table's
-no-line : (rowOf 0x0000 .class ≡ Unknown) × (rowOf 0x0002 .class ≡ Unknown) × (rowOf 0x0014 .class ≡ Unknown) × (rowOf 0xfffe .class ≡ Unknown)
+no-line : (rowOf 0x0000 .class ≡ Unknown) × (rowOf 0x0002 .class ≡ Unknown) × (rowOf 0x0016 .class ≡ Unknown) × (rowOf 0xfffe .class ≡ Unknown)
 unfolding rows firstRow rowOf
 no-line = (refl, refl, refl, refl)
 
@@ -98,9 +112,9 @@ start-and-end-count : (rowOf 0x0001 .count ≡ field 6 1 64 0) × (rowOf 0xffff 
 unfolding rows firstRow rowOf
 start-and-end-count = (refl, refl)
 
-polynomial-count : rowOf 0x0010 .p ≡ field 0 1 16 1
+polynomial-counts : (rowOf 0x0010 .p ≡ field 0 1 16 1) × (rowOf 0x0014 .p ≡ field 0 1 16 1) × (rowOf 0x0015 .p ≡ field 0 1 16 1)
 unfolding rows firstRow rowOf
-polynomial-count = refl
+polynomial-counts = (refl, refl, refl)
 
 rational-counts : (rowOf 0x0011 .p ≡ field 16 1 12 1) × (rowOf 0x0011 .q ≡ field 18 1 12 1)
 unfolding rows firstRow rowOf

@@ -52,6 +52,10 @@ pub const FRACTION: u16 = 0x0012;
 
 pub const ROOT: u16 = 0x0013;
 
+pub const ODD: u16 = 0x0014;
+
+pub const EVEN: u16 = 0x0015;
+
 pub const END: u16 = 0xffff;
 
 // A row as the table keeps it, its numbers side by side: the prover's work for a constant grows with the structs in it.
@@ -63,8 +67,10 @@ struct Line {
 }
 
 // The numbers of a row, from left to right: head, width, base; then at, least, most, each of p; the same four of q; of the
-// mode; of the count.
-const ROWS: [Line; 6] = [
+// mode; of the count. An odd and an even polynomial are laid out as the polynomial.
+const COEFFICIENTS: [u16; 19] = [16, 4, 0, 0, 1, 16, 1, 0, 0, 0, 0, 0, 0, 0, 0, 0, 0, 0, 0];
+
+const ROWS: [Line; 8] = [
     Line {
         code: START,
         class: Class::StartRecord,
@@ -75,7 +81,7 @@ const ROWS: [Line; 6] = [
         code: POLYNOMIAL,
         class: Class::FormulaRecord,
         kind: Kind::Polynomial,
-        numbers: [16, 4, 0, 0, 1, 16, 1, 0, 0, 0, 0, 0, 0, 0, 0, 0, 0, 0, 0],
+        numbers: COEFFICIENTS,
     },
     Line {
         code: RATIONAL,
@@ -96,6 +102,18 @@ const ROWS: [Line; 6] = [
         numbers: [16, 4, 0, 0, 0, 0, 0, 0, 0, 0, 0, 0, 0, 0, 0, 0, 0, 0, 0],
     },
     Line {
+        code: ODD,
+        class: Class::FormulaRecord,
+        kind: Kind::Odd,
+        numbers: COEFFICIENTS,
+    },
+    Line {
+        code: EVEN,
+        class: Class::FormulaRecord,
+        kind: Kind::Even,
+        numbers: COEFFICIENTS,
+    },
+    Line {
         code: END,
         class: Class::EndRecord,
         kind: Kind::NoFormula,
@@ -112,7 +130,7 @@ const UNKNOWN: Line = Line {
 };
 
 // The only function that names the table: a constant is written out, and walked, in each that does.
-fn all_lines() -> [Line; 6]
+fn all_lines() -> [Line; 8]
     ensures { λ r. ⌜ r ≡ map line rows ⌝ }
 {
     ROWS
@@ -129,7 +147,9 @@ fn line_of(code: u16) -> Line
         RATIONAL => rows[2],
         FRACTION => rows[3],
         ROOT => rows[4],
-        END => rows[5],
+        ODD => rows[5],
+        EVEN => rows[6],
+        END => rows[7],
         _ => UNKNOWN,
     }
 }
@@ -177,6 +197,8 @@ pub fn code_for(kind: Kind) -> u16
         Kind::Rational => RATIONAL,
         Kind::Fraction => FRACTION,
         Kind::Root => ROOT,
+        Kind::Odd => ODD,
+        Kind::Even => EVEN,
         Kind::NoFormula => 0,
     }
 }

@@ -27,6 +27,14 @@ put-checked-requires-4 : tie.Need-put-checked-requires-4
 unfolding rowOf firstRow rows
 put-checked-requires-4 c κs = search needs
 
+put-checked-requires-5 : tie.Need-put-checked-requires-5
+unfolding rowOf firstRow rows
+put-checked-requires-5 c κs = search needs
+
+put-checked-requires-6 : tie.Need-put-checked-requires-6
+unfolding rowOf firstRow rows
+put-checked-requires-6 c κs = search needs
+
 returns : tie.Need-returns
 unfolding rowOf firstRow rows
 returns c =
@@ -60,12 +68,28 @@ returns-4 c =
     (at-code (a .s) (a .f) (length (now (a .out))) 0x0013 (named (m .before) (m .match .keys4)) refl (p .put-checked4 .ensures .0), p .put-checked4 .ensures .1)
 
 returns-5 : tie.Need-returns-5
+unfolding rowOf firstRow rows
 returns-5 c =
+    let p = c .before .before in
+    let m = p .before .before in
+    let a = m .before .before .before .before .args in
+    (at-code (a .s) (a .f) (length (now (a .out))) 0x0014 (named (m .before) (m .match .keys5)) refl (p .put-checked5 .ensures .0), p .put-checked5 .ensures .1)
+
+returns-6 : tie.Need-returns-6
+unfolding rowOf firstRow rows
+returns-6 c =
+    let p = c .before .before in
+    let m = p .before .before in
+    let a = m .before .before .before .before .args in
+    (at-code (a .s) (a .f) (length (now (a .out))) 0x0015 (named (m .before) (m .match .keys6)) refl (p .put-checked6 .ensures .0), p .put-checked6 .ensures .1)
+
+returns-7 : tie.Need-returns-7
+returns-7 c =
     let m = c .before in
     let a = m .before .before .before .before .args in
     let d = m .match .rest in
     let n = m .before .code-for .result in
-    (at-no-code (a .s) (a .f) (length (now (a .out))) n (m .before .code-for .ensures) (no-formula n (d .0 .0 .0 .1) (d .0 .0 .1) (d .0 .1) (d .1)) (c .refused-by .ensures), rw (c .refused-by .ensures) refl)
+    (at-no-code (a .s) (a .f) (length (now (a .out))) n (m .before .code-for .ensures) (no-formula n (d .0 .0 .0 .0 .0 .1) (d .0 .0 .0 .0 .1) (d .0 .0 .0 .1) (d .0 .0 .1) (d .0 .1) (d .1)) (c .refused-by .ensures), rw (c .refused-by .ensures) refl)
 
 pub write-record-spec : {M : Type 1} → statement M
 write-record-spec =
@@ -76,6 +100,8 @@ write-record-spec =
     put-checked-requires-2
     put-checked-requires-3
     put-checked-requires-4
+    put-checked-requires-5
+    put-checked-requires-6
     (λ c κs. search needs)
     (λ c. search needs)
     returns
@@ -85,4 +111,8 @@ write-record-spec =
     returns-3
     (λ c. search needs)
     returns-4
-    returns-5)
+    (λ c. search needs)
+    returns-5
+    (λ c. search needs)
+    returns-6
+    returns-7)

@@ -29,10 +29,18 @@ unfolding codeFor rowOf firstRow rows
 returns-4 c = rw (named (c .before .before) (c .before .match .keys4)) (pass refl refl (c .root-fault .ensures ∙ no-words _ (rowOf 0x0013) _ _ _ _ refl))
 
 returns-5 : tie.Need-returns-5
-returns-5 c =
+unfolding codeFor rowOf firstRow rows
+returns-5 c = rw (named (c .before .before) (c .before .match .keys5)) (pass refl refl (c .odd-fault .ensures))
+
+returns-6 : tie.Need-returns-6
+unfolding codeFor rowOf firstRow rows
+returns-6 c = rw (named (c .before .before) (c .before .match .keys6)) (pass refl refl (c .even-fault .ensures))
+
+returns-7 : tie.Need-returns-7
+returns-7 c =
     let d = c .match .rest in
     let e = c .before .code .ensures in
-    rw (← e) (stop _ (sym (no-formula (c .before .code .result) (d .0 .0 .0 .1) (d .0 .0 .1) (d .0 .1) (d .1))) (λ z. omega arith))
+    rw (← e) (stop _ (sym (no-formula (c .before .code .result) (d .0 .0 .0 .0 .0 .1) (d .0 .0 .0 .0 .1) (d .0 .0 .0 .1) (d .0 .0 .1) (d .0 .1) (d .1))) (λ z. omega arith))
 
 pub formula-fault-spec : {M : Type 1} → statement M
 formula-fault-spec =
@@ -43,8 +51,12 @@ formula-fault-spec =
     (λ c κs. search needs)
     (λ c κs. search needs)
     (λ c κs. search needs)
+    (λ c κs. search needs)
+    (λ c κs. search needs)
     returns
     returns-2
     returns-3
     returns-4
-    returns-5)
+    returns-5
+    returns-6
+    returns-7)

@@ -1,0 +1,65 @@
+-- `records::odd_fault` meets its contract: the front, then what the kind's own admission has found.
+use Rattle.whole.proofs.Basics.{refl, arith, now, needs}
+use Rattle.formula.specs.declared.Kind.the-variants.{Odd}
+use Rattle.formula.proofs.JudgedLaws.{odd-judged}
+use Rattle.table.specs.Table.{rows, firstRow, rowOf}
+use Rattle.table.specs.Codes.{codeFor}
+use Rattle.table.proofs.Rule.{ruled}
+use Rattle.records.proofs.Front.{Front, front-stops, whole, words-stand, most-size, front-passes}
+use Rattle.records.proofs.odd_fault.Statement.{statement}
+use Rattle.records.proofs.odd_fault.Tie as tie
+
+front-fault-requires : tie.Need-front-fault-requires
+unfolding rowOf firstRow rows
+front-fault-requires c κs = rw (c .row-of .ensures) (ruled 0x0014, refl, c .before .before .pre .1)
+
+-- the front, by the row that was found
+front : (c : tie.After-front-fault) →
+    let a = c .before .before .before .args in
+    Front 0x0014 Odd (c .before .row-of .result) (now (a .b)) (a .seen) (a .count) (a .next) (c .front-fault .result)
+unfolding rowOf firstRow rows
+front c = record { row = c .before .row-of .ensures; class = refl; kind = refl; short = c .before .before .before .pre .1; fault = c .front-fault .ensures }
+
+returns : tie.Need-returns
+unfolding codeFor firstRow rows
+returns c = front-stops (c .before .before .before .before .args .s) (front (c .before)) (c .if1 .taken)
+
+shape-of-requires : tie.Need-shape-of-requires
+shape-of-requires c κs = let d = whole (front (c .before)) (c .if1 .left) in (d .ruled, omega (arith, d .laid .exact), d .most)
+
+most-requires : tie.Need-most-requires
+most-requires c κs = let e = c .before .before in whole (front (e .before)) (e .if1 .left) .least
+
+admit-requires : tie.Need-admit-odd-requires
+admit-requires c κs =
+    let h = c .before .before in
+    let e = h .before in
+    rw (h .shape-of .ensures) (e .before .before .before .before .pre .0, words-stand (front (e .before)) (e .if1 .left), omega (arith, c .most .ensures, most-size (front (e .before)) (e .if1 .left)))
+
+admission-fault-requires : tie.Need-admission-fault-requires
+admission-fault-requires c κs = let e = c .before .before .before .before in omega (arith, whole (front (e .before)) (e .if1 .left) .laid .exact)
+
+returns-2 : tie.Need-returns-2
+unfolding codeFor firstRow rows
+returns-2 c =
+    let a = c .before in
+    let h = a .before .before .before in
+    let e = h .before in
+    let s = e .before .before .before .before .args .s in
+    let n = h .shape-of .result in
+    front-passes (front (e .before)) (e .if1 .left) s (a .admit-odd .result) (c .admission-fault .ensures)
+    (rw (rw (h .shape-of .ensures, a .before .most .ensures) at (a .admit-odd .ensures)) (odd-judged s _ _ _ _ (n .q) (n .mode)))
+
+pub odd-fault-spec : {M : Type 1} → statement M
+odd-fault-spec =
+    tie.close
+    (tie.spec
+    (λ c κs. search needs)
+    front-fault-requires
+    returns
+    shape-of-requires
+    (λ c. search needs)
+    most-requires
+    admit-requires
+    admission-fault-requires
+    returns-2)
