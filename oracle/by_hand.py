@@ -1,10 +1,11 @@
-"""The paper's own cases (01, 'Checked by hand'), P or not, and the listing's.
+"""The paper's own cases (01, 'Checked by hand'), P or not, and the listing's;
+then cases of odd and even formulas, worked out by hand from request M-100.
 
-A case is a formula, an argument (None: only admission is asked) and what the
-paper gives: an answer word, a refusal number at the record, or accepted (0).
+A case is a formula, an argument where an answer is asked, and what is given:
+an answer word, a refusal number at the record, or accepted (0).
 """
 
-from formulas import FRACTION, POLYNOMIAL, RATIONAL, ROOT, Formula
+from formulas import EVEN, FRACTION, ODD, POLYNOMIAL, RATIONAL, ROOT, Formula
 from number import ONE
 
 
@@ -60,4 +61,124 @@ REFUSED = (
     (LISTED[:24], 1, 24),
     (LISTED[:31], 1, 24),
     (LISTED[:24] + bytes(8), 2, 24),
+)
+
+# Odd and even formulas. Where no interval stands, it is -2 to 2.
+
+
+def odd(words, *ends):
+    return polynomial(words, *ends)._replace(kind=ODD)
+
+
+def even(words, *ends):
+    return polynomial(words, *ends)._replace(kind=EVEN)
+
+
+HALF = ONE // 2
+
+# The largest A whose S is a word, and the next. M * 2^24 = 2^55 - 2^24 is
+# 36028797002186752.
+#   189812531^2 = 36028796924625961, less than that by 77560791, which is
+#   4.62 * 2^24: the square is M - 4.62 steps, so S = M - 4 and s = M - 5.
+#   189812532^2 is more by 2 * 189812531 + 1 = 379625063, above M * 2^24 by
+#   302064272, which is 18.004 * 2^24: S = M + 19.
+# So S is never M itself.
+WIDEST = 189812531
+
+# Exactly one step: its product with x is x / 2^24, whatever s is.
+ODD_STEP = odd((1,))
+
+# 1 - x^2/2 and 1 - x^2/2 + x^4/32; x - x^3/8 and x - x^3/4 + x^5/32.
+EVEN_OF_TWO = even((ONE, -HALF))
+EVEN_OF_THREE = even((ONE, -HALF, ONE // 32))
+ODD_OF_TWO = odd((ONE, -ONE // 8))
+ODD_OF_THREE = odd((ONE, -ONE // 4, ONE // 32))
+
+ODD_AND_EVEN_ANSWERS = (
+    (ODD_STEP, 0, 0),
+    (ODD_STEP, HALF - 1, 0),  # just below 1/2
+    (ODD_STEP, HALF, 1),  # 1/2, a tie, upward
+    (ODD_STEP, -HALF, 0),  # -1/2, a tie, upward
+    (ODD_STEP, -HALF - 1, -1),  # just below -1/2
+    (ODD_STEP, ONE, 1),
+    (ODD_STEP, -ONE, -1),
+    (ODD_STEP, ONE + HALF, 2),  # 3/2, a tie, upward
+    (ODD_STEP, -ONE - HALF, -1),  # -3/2, a tie, upward
+    (odd((1,), -WIDEST, WIDEST), WIDEST, 11),  # 11.31
+    (odd((1,), -WIDEST, WIDEST), -WIDEST, -11),
+    # s = 1/4: 1 - 1/8 = 7/8, and 7 * 2^21 steps.
+    (EVEN_OF_TWO, HALF, 14680064),
+    (EVEN_OF_TWO, -HALF, 14680064),
+    (EVEN_OF_TWO, 0, 16777216),
+    (EVEN_OF_TWO, ONE, 8388608),  # s = 1: 1 - 1/2
+    (EVEN_OF_TWO, -2 * ONE, -16777216),  # s = 4: 1 - 2
+    # s = 1/4: -1/2 + 1/128 = -63/128; 1 - 63/512 = 449/512, 449 * 2^15 steps.
+    (EVEN_OF_THREE, HALF, 14712832),
+    (EVEN_OF_THREE, -HALF, 14712832),
+    # s = 1/4: 1 - 1/32 = 31/32, times 1/2 is 31/64, and 31 * 2^18 steps.
+    (ODD_OF_TWO, HALF, 8126464),
+    (ODD_OF_TWO, -HALF, -8126464),
+    (ODD_OF_TWO, 0, 0),
+    (ODD_OF_TWO, 2 * ONE, 16777216),  # s = 4: (1 - 1/2) * 2
+    (ODD_OF_TWO, -2 * ONE, -16777216),
+    # s = 1/4: -1/4 + 1/128 = -31/128; 1 - 31/512 = 481/512, times 1/2 is
+    # 481/1024, and 481 * 2^14 steps.
+    (ODD_OF_THREE, HALF, 7880704),
+    (ODD_OF_THREE, -HALF, -7880704),
+    # s is rounded before it is used. 2896^2 = 8386816 is below 2^23 and
+    # 2897^2 = 8392609 above it, so s is 0 or 1 step, and 4 s is 0 or 4; with
+    # s unrounded both would be 2.
+    (even((0, 4 * ONE)), 2896, 0),
+    (even((0, 4 * ONE)), 2897, 4),
+    (even((0, 4 * ONE)), -2897, 4),
+    # s = 25/16: one step times it is 1.5625, rounded 2; 2 times 5/4 is 2.5 and
+    # 2 times -5/4 is -2.5, ties, upward.
+    (odd((0, 1)), ONE + ONE // 4, 3),
+    (odd((0, 1)), -ONE - ONE // 4, -2),
+    # s = M - 5 at both ends, and 4 more.
+    (even((0, ONE), -WIDEST, WIDEST), WIDEST, 2147483642),
+    (even((0, ONE), -WIDEST, WIDEST), -WIDEST, 2147483642),
+    (even((4, ONE), -WIDEST, WIDEST), WIDEST, 2147483646),
+    # The largest word times one, and times minus one.
+    (odd((2147483647,), -ONE, ONE), ONE, 2147483647),
+    (odd((2147483647,), -ONE, ONE), -ONE, -2147483647),
+)
+
+ODD_AND_EVEN_ADMISSIONS = (
+    # S at its largest and above M, with one coefficient, at either end; a
+    # polynomial does not form it.
+    (even((1,), -WIDEST, WIDEST), 0),
+    (odd((1,), -WIDEST, WIDEST), 0),
+    (even((1,), 0, WIDEST + 1), 7),
+    (odd((1,), 0, WIDEST + 1), 7),
+    (even((0,), -WIDEST - 1, -WIDEST - 1), 7),
+    (odd((0,), -WIDEST - 1, 0), 7),
+    (polynomial((1,), -WIDEST - 1, WIDEST + 1), 0),
+    # B_0 = |c0| + S with S = M - 4: M, then M + 1.
+    (even((4, ONE), -WIDEST, WIDEST), 0),
+    (even((5, ONE), -WIDEST, WIDEST), 7),
+    (even((-5, ONE), 0, WIDEST), 7),
+    # On [-1/2, 1/2] S = 1/4, and a quarter of a step is rounded up: B_0 is
+    # M + 1, though the odd formula's last bound product would be small.
+    (even((2147483646, 1), -HALF, HALF), 0),
+    (even((2147483647, 1), -HALF, HALF), 7),
+    (odd((2147483646, 1), -HALF, HALF), 0),
+    (odd((2147483647, 1), -HALF, HALF), 7),
+    # The last bound product, the odd formula's alone: M * 1 = M; one step of
+    # A more adds M / 2^24, nearly 128.
+    (odd((2147483647,), -ONE, ONE), 0),
+    (odd((2147483647,), 0, ONE + 1), 7),
+    (even((2147483647,), 0, ONE + 1), 0),
+    # 1073741823 * 2 = M - 1 and 1073741824 * 2 = M + 1.
+    (odd((1073741823,)), 0),
+    (odd((1073741824,)), 7),
+    (even((1073741824,)), 0),
+    # 1431655764 * 3/2 = M - 1; 1431655765 * 3/2 = M + 1/2, rounded up.
+    (odd((-1431655764,), 0, ONE + HALF), 0),
+    (odd((-1431655765,), 0, ONE + HALF), 7),
+    # With two coefficients on [-2, 2]: S = 4 and B_0 = c0 + 4, doubled.
+    (odd((1073741819, 1)), 0),
+    (odd((1073741820, 1)), 7),
+    # S = 0: every B is |ck|, and the last bound product is 0.
+    (odd((2147483647, 2147483647), 0, 0), 0),
 )

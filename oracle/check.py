@@ -10,21 +10,25 @@ from pathlib import Path
 from random import Random
 
 import slow
-from by_hand import ADMISSIONS, ANSWERS, LISTED, REFUSED
+from by_hand import (
+    ADMISSIONS, ANSWERS, LISTED, ODD_AND_EVEN_ADMISSIONS, ODD_AND_EVEN_ANSWERS,
+    REFUSED)
 from door import evaluate_double, interval, pattern_of, word_of
 from evaluation import evaluate
 from formulas import (
-    FRACTION, POLYNOMIAL, RATIONAL, ROOT, Formula, admission, answer)
+    EVEN, FRACTION, ODD, POLYNOMIAL, POLYNOMIALS, RATIONAL, ROOT, Formula,
+    admission, answer)
 from makers import (
-    KINDS, arguments, good_formula, good_formulas, sheet_of, signed, size,
-    with_field, word)
+    KINDS, arguments, full_polynomial, good_formula, good_formulas, largest,
+    sheet_of, signed, size, with_field, word)
 from number import (
     M, NO_WORD, ONE, bound_product, bound_quotient, is_word, product, quotient,
     root)
 from questions import (
-    answer_to, ask_record, ask_sheet, buffer_beforehand)
+    COUNT, DOUBLE, EVALUATE, FORMULA, INTERVAL, RECORD, SHEET, answer_to,
+    ask_record, ask_sheet, buffer_beforehand, unpacked_fields)
 from refusal import Refused
-from sheet import END, START, formula_count, formula_of, read
+from sheet import END, START, formula_count, formula_of, read, read_run
 from vectors import taken_apart
 from writing import record_of, start_or_end, write_record, write_sheet
 
@@ -59,14 +63,15 @@ def refused(number, place=0):
 
 
 def check_by_hand(tally, rng):
-    """Every row of 'Checked by hand', P or not, and the listing's sheets."""
-    for formula, argument, expected in ANSWERS:
+    """Every row of 'Checked by hand', P or not, the listing's sheets, and the
+    cases of odd and even formulas."""
+    for formula, argument, expected in (*ANSWERS, *ODD_AND_EVEN_ANSWERS):
         sheet = sheet_of([formula])
         tally.same("by hand", evaluate(sheet, 1, argument), expected)
         tally.same("by hand, in doubles",
                    evaluate_double(sheet, 1, pattern_of(argument)),
                    pattern_of(expected))
-    for formula, expected in ADMISSIONS:
+    for formula, expected in (*ADMISSIONS, *ODD_AND_EVEN_ADMISSIONS):
         tally.same("by hand, admission",
                    outcome(formula_count, sheet_of([formula])),
                    refused(expected, 8) if expected else 1)
@@ -122,9 +127,30 @@ def check_formulas(tally, rng):
         changed = list(formula.words)
         for _ in range(3 if changed else 0):
             changed[rng.randrange(len(changed))] = word(rng)
-            spoilt = formula._replace(words=tuple(changed))
-            tally.same(f"admission of {spoilt}", admission(spoilt),
-                       slow.admission(spoilt))
+            for spoilt in (formula._replace(words=tuple(changed)),
+                           formula._replace(hi=M - size(rng))):
+                tally.same(f"admission of {spoilt}", admission(spoilt),
+                           slow.admission(spoilt))
+
+
+def check_polynomials(tally, rng):
+    """Admitted polynomials, odd and even ones among them, some with no room
+    left below M: all that they meet on the way is a word, the answer lies
+    within demand 3's distance, and even answers at -x as at x."""
+    for kind in POLYNOMIALS * 300:
+        drawn = rng.choice((good_formula, full_polynomial))(rng, kind)
+        a = largest(drawn)
+        formula = drawn._replace(lo=-a, hi=a)
+        sheet = sheet_of([formula])
+        for argument in (a, -a, 0, rng.randrange(-a, a + 1)):
+            found = evaluate(sheet, 1, argument)
+            met = slow.numbers_met(formula, argument)
+            tally.same(f"{met} are words", all(map(is_word, met)), True)
+            tally.same(f"{formula} at {argument} is near {found}",
+                       slow.near_enough(formula, argument, found), True)
+            if kind == EVEN:
+                tally.same(f"{formula} at {-argument}",
+                           evaluate(sheet, 1, -argument), found)
 
 
 def check_doubles(tally, rng):
@@ -163,8 +189,8 @@ def root_record(number, lo=0, hi=1):
     return record_of(Formula(ROOT, number, lo, hi, 0, 0, 0, ()))
 
 
-def polynomial_record(number, words, lo=-1, hi=1):
-    return record_of(Formula(POLYNOMIAL, number, lo, hi, 0, 0, 0, words))
+def polynomial_record(number, words, lo=-1, hi=1, kind=POLYNOMIAL):
+    return record_of(Formula(kind, number, lo, hi, 0, 0, 0, words))
 
 
 def rational_record(number, p, q, words, lo=-1, hi=1):
@@ -196,11 +222,14 @@ def check_order(tally, rng):
             (one + framing(START, 1, 7), 2, 8),
             (one + framing(START, 1, 9), 1, 8),
             (one + framing(START, 1, 9) + b"\0", 3, 8),
-            (one + framing(0x0014, 1), 3, 8),
+            (one + framing(0x0016, 1), 3, 8),
             # The exact length and counts.
             *((one + cut_record(ratio, n) + end, 2, 8) for n in range(8, 28)),
-            (one + polynomial_record(5, ()) + end, 2, 8),
-            (one + polynomial_record(5, (1,) * 17) + end, 2, 8),
+            *((one + polynomial_record(5, (1,) * m, kind=kind) + end, 2, 8)
+              for kind in POLYNOMIALS for m in (0, 17, 26)),
+            *((one + cut_record(polynomial_record(5, (1, 1), kind=kind), n)
+               + end, 2, 8)
+              for kind in POLYNOMIALS for n in (8, 16, 19, 21, 23)),
             (one + rational_record(5, 0, 2, (1, 1)) + end, 2, 8),
             (one + rational_record(5, 13, 1, (1,) * 14) + end, 2, 8),
             (one + fraction_record(5, 3, 0, (1,)) + end, 2, 8),
@@ -221,9 +250,11 @@ def check_order(tally, rng):
             (two + good + root_record(6, -1) + framing(END, 2), 6, 24),
             (one + root_record(5, 2, 1) + end, 6, 8),
             (one + fraction_record(5, 3, 1, (0, 0, 0)) + end, 6, 8),
-            (one + polynomial_record(5, (M, NO_WORD)) + end, 6, 8),
+            *((one + polynomial_record(5, (M, NO_WORD), -M, M, kind) + end,
+               6, 8) for kind in POLYNOMIALS),
             # 7 and 8 as Admission meets them.
-            (one + polynomial_record(5, (M, 1)) + end, 7, 8),
+            *((one + polynomial_record(5, (M, 1), kind=kind) + end, 7, 8)
+              for kind in POLYNOMIALS),
             (one + rational_record(5, 2, 1, (M, 1, 0)) + end, 7, 8),
             (one + rational_record(5, 1, 2, (0, M, 1)) + end, 7, 8),
             (one + rational_record(5, 1, 2, (128, 1, 1)) + end, 8, 8),
@@ -235,6 +266,8 @@ def check_order(tally, rng):
         tally.same(f"sheet {sheet.hex()}", outcome(formula_count, sheet),
                    refused(number, place))
     for sheet in (one + root_record(0) + end, one + root_record(65535) + end,
+                  *(one + polynomial_record(5, (1,) * m, kind=kind) + end
+                    for kind in POLYNOMIALS for m in (1, 16)),
                   one + rational_record(5, 1, 2, (127, 2, 1)) + end,
                   one + fraction_record(5, 0, 1, (0, 0, 1), -M, M) + end):
         tally.same(f"sheet {sheet.hex()}", outcome(formula_count, sheet), 1)
@@ -314,7 +347,13 @@ def check_writers(tally, rng):
             (good._replace(lo=0, hi=0, words=(1, 1, 0, 1)), 0, 8),
             (good._replace(lo=-M, hi=M, words=(M, M, 0, 1)), 0, 7),
             (good, 35, 12), (good, 36, 0),
-            (good._replace(mode=9, words=long_words), 36, 0)):
+            (good._replace(mode=9, words=long_words), 36, 0),
+            (good._replace(kind=0x0016, p=0), 0, 3),
+            *((good._replace(kind=kind, p=p, lo=NO_WORD), 0, 2)
+              for kind in POLYNOMIALS for p in (0, 17)),
+            (good._replace(kind=ODD, lo=M, hi=-M), 0, 6),
+            (good._replace(kind=EVEN, lo=0, hi=M, words=(0, 0)), 0, 7),
+            (good._replace(kind=ODD, lo=0, hi=2 * ONE, words=(M, 0)), 0, 7)):
         found = answer_to(*ask_record(fields, room))
         expected = number, bytes(4), 4 * b"\0" + buffer_beforehand(room)
         if number == 0:
@@ -342,17 +381,40 @@ def check_writers(tally, rng):
                    expected + buffer_beforehand(room))
 
 
+# The bytes of a question about a sheet that come before the sheet.
+BEFORE_THE_SHEET = {COUNT: 0, FORMULA: 2, EVALUATE: 6, DOUBLE: 10, INTERVAL: 2}
+
+
+def kinds_asked(question, content):
+    """The kinds of the formulas that an accepted question is about."""
+    if question == RECORD:
+        return {unpacked_fields(content).kind}
+    if question == SHEET:
+        return {formula.kind for formula in read_run(content[2:], 8)}
+    sheet = content[BEFORE_THE_SHEET[question]:]
+    if question == COUNT:
+        return {formula.kind for formula in read(sheet)}
+    return {formula_of(sheet, int.from_bytes(content[:2], "little")).kind}
+
+
 def check_vectors(tally, rng):
     """The committed vectors are this oracle's answers, and every refusal that
-    a question has is among them."""
+    a question has is among them, and every kind accepted."""
     packed = Path(__file__).with_name("vectors.xz").read_bytes()
     met = set()
+    kinds = set()
     count = 0
     for question, content, found in taken_apart(lzma.decompress(packed)):
         tally.same(f"vector {count}", found, answer_to(question, content))
         met.add((question, found[0]))
+        if found[0] == 0:
+            kinds |= {(question, kind)
+                      for kind in kinds_asked(question, content)}
         count += 1
     tally.same("at least 10,000 vectors", count >= 10000, True)
+    tally.same("every kind in every question", kinds,
+               {(question, kind) for question in range(1, 8)
+                for kind in KINDS})
     sheet = range(10)
     for question, numbers in (
             (1, sheet), (2, (*sheet, 11)), (3, (*sheet, 10, 11)),
@@ -363,9 +425,9 @@ def check_vectors(tally, rng):
             sorted(numbers))
 
 
-CHECKS = (check_by_hand, check_arithmetic, check_formulas, check_doubles,
-          check_order, check_questions, check_round_trips, check_writers,
-          check_vectors)
+CHECKS = (check_by_hand, check_arithmetic, check_formulas, check_polynomials,
+          check_doubles, check_order, check_questions, check_round_trips,
+          check_writers, check_vectors)
 
 
 def main():

@@ -7,7 +7,7 @@ The oracle, not this table, says which refusal a spoilt sheet really gets.
 from itertools import combinations
 from struct import unpack_from
 
-from formulas import FRACTION, POLYNOMIAL, RATIONAL, SHAPES
+from formulas import FRACTION, POLYNOMIAL, POLYNOMIALS, RATIONAL, SHAPES
 from makers import with_field
 from number import M, NO_WORD
 from sheet import END, START
@@ -107,15 +107,15 @@ def lo_above_hi(draft):
     field(HI_AT, "i", -M)(draft)
 
 
-def widest(kind):
-    """The widest interval, and every coefficient the largest word."""
+def widest(kind, word):
+    """The widest interval, and every coefficient the same word."""
     head = SHAPES[kind].head
 
     def spoil(draft):
         field(LO_AT, "i", -M)(draft)
         field(HI_AT, "i", M)(draft)
         for at in range(head, len(draft.record) - 3, 4):
-            field(at, "i", M)(draft)
+            field(at, "i", word)(draft)
     return spoil
 
 
@@ -144,16 +144,18 @@ END_FAULTS = [
 def own_faults(kind, p):
     """Faults of one formula kind; a rational's p says where its divisor is."""
     head = SHAPES[kind].head
-    if kind == POLYNOMIAL:
-        return [(7, widest(kind)), (6, field(head, "i", NO_WORD)),
-                (2, resized(-4 * p))]
+    if kind in POLYNOMIALS:
+        s_alone = [] if kind == POLYNOMIAL else [(7, widest(kind, 0))]
+        return [(7, widest(kind, M)), *s_alone,
+                (6, field(head, "i", NO_WORD)), (2, resized(-4 * p)),
+                (2, resized(4 * (17 - p)))]
     if kind == RATIONAL:
-        return [(7, widest(kind)), (8, field(head + 4 * p, "i", 0)),
+        return [(7, widest(kind, M)), (8, field(head + 4 * p, "i", 0)),
                 (6, field(head + 4 * p + 4, "i", NO_WORD)),
                 (2, field(FIRST_COUNT_AT, "H", 13)),
                 (2, field(SECOND_COUNT_AT, "H", 0))]
     if kind == FRACTION:
-        return [(7, widest(kind)), (8, field(head + 8, "i", 0)),  # b1
+        return [(7, widest(kind, M)), (8, field(head + 8, "i", 0)),  # b1
                 (8, field(head + 8 * p, "i", 0)),  # the innermost b
                 (6, field(FIRST_COUNT_AT, "H", 3)),
                 (2, field(SECOND_COUNT_AT, "H", 0)),
@@ -166,7 +168,7 @@ def run_faults(kind, p):
     return own_faults(kind, p) + [
         (6, lo_above_hi), (6, field(LO_AT, "i", NO_WORD)),
         (6, field(HI_AT, "i", NO_WORD)), (5, not_above_before(0)),
-        (5, not_above_before(1)), (3, field(KIND_AT, "H", 0x0014)),
+        (5, not_above_before(1)), (3, field(KIND_AT, "H", 0x0016)),
         (3, field(KIND_AT, "H", START)), *BROKEN]
 
 

@@ -1,6 +1,7 @@
-"""The four formula kinds: their shape, their answer and their admission.
+"""The six formula kinds: their shape, their answer and their admission.
 
-Paper 01, 'Formula kinds', 'Admission' and the table of 'Sheet layout'.
+Paper 01, 'Formula kinds', 'Admission' and the table of 'Sheet layout'; the odd
+and the even polynomial are of request M-100.
 """
 
 from typing import NamedTuple
@@ -12,14 +13,18 @@ POLYNOMIAL = 0x0010
 RATIONAL = 0x0011
 FRACTION = 0x0012
 ROOT = 0x0013
+ODD = 0x0014
+EVEN = 0x0015
+
+POLYNOMIALS = POLYNOMIAL, ODD, EVEN  # laid out alike
 
 
 class Formula(NamedTuple):
     """A formula's fields; one that the kind has not is 0.
 
-    p is the count of a polynomial, the count of a rational's numerator or the
-    depth of a fraction; q is the count of a rational's divisor. The words are
-    the coefficients in stored order.
+    p is the count of a polynomial (odd and even included), the count of a
+    rational's numerator or the depth of a fraction; q is the count of a
+    rational's divisor. The words are the coefficients in stored order.
     """
 
     kind: int
@@ -41,12 +46,15 @@ class Shape(NamedTuple):
 
 
 ABSENT = range(0, 1)
+AS_THE_POLYNOMIAL = Shape(16, range(1, 17), ABSENT)
 
 SHAPES = {
-    POLYNOMIAL: Shape(16, range(1, 17), ABSENT),
+    POLYNOMIAL: AS_THE_POLYNOMIAL,
     RATIONAL: Shape(20, range(1, 13), range(1, 13)),
     FRACTION: Shape(20, range(1, 13), ABSENT),
     ROOT: Shape(16, ABSENT, ABSENT),
+    ODD: AS_THE_POLYNOMIAL,
+    EVEN: AS_THE_POLYNOMIAL,
 }
 
 
@@ -77,6 +85,7 @@ def values_are_good(formula):
 
 
 def polynomial(words, x):
+    """The walk over the coefficients; an odd or even formula takes it at s."""
     running = words[-1]
     for c in reversed(words[:-1]):
         running = c + product(running, x)
@@ -107,7 +116,10 @@ def answer(formula, x):
         return quotient(polynomial(words[:p], x), polynomial(words[p:], x))
     if formula.kind == FRACTION:
         return fraction(words, p, formula.mode, x)
-    return root(x)
+    if formula.kind == ROOT:
+        return root(x)
+    even = polynomial(words, product(x, x))
+    return product(even, x) if formula.kind == ODD else even
 
 
 # Admission: each function gives 0, or the refusal 7 or 8 that it meets first.
@@ -157,6 +169,16 @@ def fraction_admission(words, depth, mode, a):
     return 0
 
 
+def odd_or_even_admission(kind, words, a):
+    """S is formed for one coefficient too, though the answer has no use of s;
+    the last bound product is the odd formula's alone."""
+    s = bound_product(a, a)
+    if s > M or polynomial_admission(words, s):
+        return 7
+    last = bound_product(bounds(words, s)[0], a)
+    return 7 if kind == ODD and last > M else 0
+
+
 def admission(formula):
     words, p = formula.words, formula.p
     a = max(abs(formula.lo), abs(formula.hi))
@@ -166,7 +188,9 @@ def admission(formula):
         return rational_admission(words[:p], words[p:], a)
     if formula.kind == FRACTION:
         return fraction_admission(words, p, formula.mode, a)
-    return 0
+    if formula.kind == ROOT:
+        return 0
+    return odd_or_even_admission(formula.kind, words, a)
 
 
 def verdict(formula):

@@ -2,19 +2,23 @@
 
 from math import isqrt
 
-from by_hand import ADMISSIONS, ANSWERS, LISTED, REFUSED
+from by_hand import (
+    ADMISSIONS, ANSWERS, LISTED, ODD_AND_EVEN_ADMISSIONS, ODD_AND_EVEN_ANSWERS,
+    REFUSED, WIDEST)
 from door import pattern_of
 from formulas import (
-    FRACTION, POLYNOMIAL, RATIONAL, ROOT, Formula, bounds, factor)
+    EVEN, FRACTION, ODD, POLYNOMIAL, POLYNOMIALS, RATIONAL, ROOT, Formula,
+    bounds, factor)
 from makers import (
-    arguments, good_formula, near_one, sheet_of, signed, size, word)
-from number import M, NO_WORD, ONE, bound_product, bound_quotient
+    KINDS, arguments, full_polynomial, good_formula, largest, most_below,
+    near_one, sheet_of, signed, size, word)
+from number import M, NO_WORD, ONE, bound_product, bound_quotient, product
 from questions import (
     ask_count, ask_double, ask_evaluate, ask_formula, ask_interval)
 
 
-def polynomial(words, lo, hi):
-    return Formula(POLYNOMIAL, 1, lo, hi, len(words), 0, 0, tuple(words))
+def polynomial(words, lo, hi, kind=POLYNOMIAL):
+    return Formula(kind, 1, lo, hi, len(words), 0, 0, tuple(words))
 
 
 def rational(numerator, divisor, lo, hi):
@@ -26,11 +30,6 @@ def fraction(words, mode, lo, hi):
     return Formula(FRACTION, 1, lo, hi, len(words) // 2, 0, mode, tuple(words))
 
 
-def largest(formula):
-    """A of Admission."""
-    return max(abs(formula.lo), abs(formula.hi))
-
-
 def judged(rng, formula):
     """The count, and an answer at a place of the interval, mostly an end."""
     sheet = sheet_of([formula])
@@ -40,11 +39,12 @@ def judged(rng, formula):
 
 
 def checked_by_hand(rng):
-    """The rows of the paper's table, and its listing program's sheets."""
-    for formula, argument, _ in ANSWERS:
+    """The rows of the paper's table, its listing program's sheets, and the
+    cases of odd and even formulas."""
+    for formula, argument, _ in (*ANSWERS, *ODD_AND_EVEN_ANSWERS):
         yield ask_evaluate(sheet_of([formula]), 1, argument)
         yield ask_double(sheet_of([formula]), 1, pattern_of(argument))
-    for formula, _ in ADMISSIONS:
+    for formula, _ in (*ADMISSIONS, *ODD_AND_EVEN_ADMISSIONS):
         yield from judged(rng, formula)
     yield ask_count(LISTED)
     yield ask_formula(LISTED, 1)
@@ -56,18 +56,49 @@ def checked_by_hand(rng):
 # Admission.
 
 
+def at_the_limit(rng, upper, below=0):
+    """The coefficients of `upper` and one more below them, which Admission
+    just takes, or which is one step too large (7); then zeros below it."""
+    most = most_below(upper)
+    for c in (most, most + 1):
+        if 0 <= c <= M:
+            words = [0] * below + [signed(rng, c), *upper.words]
+            yield polynomial(words, upper.lo, upper.hi, upper.kind)
+
+
 def polynomial_limits(rng):
     """One bound B_k of a polynomial is exactly M, or one step above it (7);
-    the coefficients below it are 0."""
-    for _ in range(250):
-        upper = good_formula(rng, POLYNOMIAL, p=1 + rng.randrange(8))
-        a = largest(upper)
-        below = rng.randrange(8) if a <= ONE else 0
-        rest = M - bound_product(bounds(upper.words, a)[0], a)
-        for c in (rest, rest + 1):
-            if 0 <= c <= M:
-                words = [0] * below + [signed(rng, c)] + list(upper.words)
-                yield from judged(rng, polynomial(words, upper.lo, upper.hi))
+    the coefficients below it are 0. Of an odd or even formula it is formed
+    with S, and an odd one's last bound product may meet M first."""
+    for kind in (POLYNOMIAL,) * 250 + (ODD, EVEN) * 60:
+        upper = good_formula(rng, kind, p=1 + rng.randrange(8))
+        below = rng.randrange(8) if largest(upper) <= ONE else 0
+        for formula in at_the_limit(rng, upper, below):
+            yield from judged(rng, formula)
+
+
+def last_products(rng):
+    """The last bound product of an odd formula at M and above it (7), where
+    every B is below M; an even formula of the same words has none."""
+    for _ in range(40):
+        a = ONE + size(rng, WIDEST - ONE)
+        lo, hi = rng.choice(((-a, a), (-a, 0), (0, a), (a, a)))
+        words = [rng.randrange(-1000, 1000)
+                 for _ in range(1 + rng.randrange(2))]
+        for odd in at_the_limit(rng, polynomial(words, lo, hi, ODD)):
+            yield from judged(rng, odd)
+            yield from judged(rng, odd._replace(kind=EVEN))
+
+
+def squares_alone(rng):
+    """S at its largest and above M (7), for one coefficient and for more, at
+    either end or both; a polynomial does not form it."""
+    a = WIDEST
+    for lo, hi in ((-a, a), (-a, 0), (0, a), (a, a), (-a - 1, 0), (0, a + 1),
+                   (-a - 1, a), (a + 1, a + 1), (-M, M), (0, M)):
+        for words in ((0,), (1,), (M,), (0, 1), (4, ONE), (5, ONE)):
+            for kind in POLYNOMIALS:
+                yield from judged(rng, polynomial(words, lo, hi, kind))
 
 
 def values_between_the_ends(rng):
@@ -75,8 +106,8 @@ def values_between_the_ends(rng):
     for scale in range(100, 140):
         c = scale * ONE // 2
         for words in ((c, 0, -c), (0, c, 0, -c), (c, -c, -c, c)):
-            if abs(c) <= M:
-                yield from judged(rng, polynomial(words, -ONE, ONE))
+            for kind in POLYNOMIALS:
+                yield from judged(rng, polynomial(words, -ONE, ONE, kind))
 
 
 def rational_limits(rng):
@@ -169,7 +200,7 @@ def products_in_fractions(rng):
 def squares_in_fractions(rng):
     """S at M and above it (7), which mode 0 does not form; with the innermost
     b 0 as well (8 only where S has not given 7)."""
-    a = isqrt(M * ONE)
+    a = WIDEST
     for lo, hi in ((-a, a), (-a - 1, 0), (0, a + 1), (0, a), (-M, M), (-M, 0)):
         for mode in range(3):
             for depth in (1, 2):
@@ -182,18 +213,47 @@ def squares_in_fractions(rng):
 # Arithmetic.
 
 
+def at_both_signs(formula, x):
+    """The answers at x and -x, and one step from each towards 0."""
+    sheet = sheet_of([formula])
+    for argument in (x, -x, x - 1, 1 - x):
+        yield ask_evaluate(sheet, 1, argument)
+
+
 def product_ties(rng):
-    """Products of both signs that are ties, or one step beside a tie."""
+    """Products of both signs that are ties, or one step beside a tie; some of
+    them again as an odd formula's last product."""
     for _ in range(300):
         twos = rng.randrange(24)
         c = signed(rng, 2 * size(rng, 1 << 8) + 1 << twos)
         x = 2 * size(rng, 1 << 10) + 1 << 23 - twos
         if abs(c) <= M and x < M and abs(c * x) <= M * ONE:
-            sheet = sheet_of([polynomial((0, c), -x, x)])
-            yield ask_evaluate(sheet, 1, x)
-            yield ask_evaluate(sheet, 1, -x)
-            yield ask_evaluate(sheet, 1, x - 1)
-            yield ask_evaluate(sheet, 1, 1 - x)
+            yield from at_both_signs(polynomial((0, c), -x, x), x)
+            if x <= WIDEST and rng.randrange(6) == 0:
+                yield from at_both_signs(polynomial((c,), -x, x, ODD), x)
+
+
+def ties_with_squares(rng):
+    """Products with s that are ties. (s itself is never one: no square is an
+    odd number times 2^23.)"""
+    for _ in range(50):
+        x = 2 + size(rng, 4 * ONE)
+        s = product(x, x)
+        twos = 23 - ((s & -s).bit_length() - 1)
+        if s > 0 and twos >= 0:
+            c = signed(rng, 2 * rng.randrange(8) + 1 << twos)
+            for kind in (ODD, EVEN):
+                yield from at_both_signs(polynomial((0, c), -x, x, kind), x)
+
+
+def rounded_squares(rng):
+    """Arguments on both sides of where s takes its next step. It is rounded
+    before it is used, as a factor far above one shows."""
+    for steps in (0, 1, 2, 3, *(size(rng, ONE) for _ in range(20))):
+        x = isqrt((2 * steps + 1) * ONE // 2) + 1
+        for kind in (ODD, EVEN):
+            yield from at_both_signs(
+                polynomial((0, 100 * ONE), -x, x, kind), x)
 
 
 def quotient_ties(rng):
@@ -254,11 +314,11 @@ def fractions(rng):
 
 
 def long_polynomials(rng):
-    """Polynomials and rationals with coefficients near one, where every
-    rounding on the way counts."""
-    for _ in range(80):
+    """Polynomials, odd and even ones and rationals with coefficients near one,
+    where every rounding on the way counts."""
+    for kind in (POLYNOMIAL,) * 80 + (ODD, EVEN) * 40:
         words = [near_one(rng) for _ in range(2 + rng.randrange(15))]
-        sheet = sheet_of([polynomial(words, -ONE, ONE)])
+        sheet = sheet_of([polynomial(words, -ONE, ONE, kind)])
         for _ in range(3):
             yield ask_evaluate(sheet, 1, rng.randrange(-ONE, ONE + 1))
     for _ in range(80):
@@ -268,6 +328,43 @@ def long_polynomials(rng):
         sheet = sheet_of([rational(n, d, -ONE // 2, ONE // 2)])
         for _ in range(3):
             yield ask_evaluate(sheet, 1, rng.randrange(-ONE // 2, ONE // 2))
+
+
+def full_polynomials(rng):
+    """Polynomials, odd and even ones with no room left below M, where answers
+    are largest."""
+    for kind in POLYNOMIALS * 25:
+        formula = full_polynomial(rng, kind)
+        sheet = sheet_of([formula])
+        for argument in (formula.lo, formula.hi):
+            yield ask_evaluate(sheet, 1, argument)
+
+
+def odd_and_even_arguments(rng):
+    """Odd and even formulas of every count, about 0: both ends, 0, the same
+    argument with either sign and just outside, in words and as doubles."""
+    for kind in (ODD, EVEN):
+        for count in range(1, 17):
+            drawn = good_formula(rng, kind, p=count)
+            a = largest(drawn)
+            x = rng.randrange(a + 1)
+            sheet = sheet_of([drawn._replace(lo=-a, hi=a)])
+            yield ask_interval(sheet, 1)
+            for argument in (-a - 1, -a, -x, 0, x, a, a + 1):
+                yield ask_evaluate(sheet, 1, argument)
+                yield ask_double(sheet, 1, pattern_of(argument))
+
+
+def the_same_under_three_kinds(rng):
+    """The same fields as a polynomial, an odd and an even formula: each has
+    its own admission and its own answer."""
+    for _ in range(30):
+        drawn = good_formula(rng, POLYNOMIAL, p=1 + rng.randrange(4))
+        argument = rng.randrange(drawn.lo, drawn.hi + 1)
+        for kind in POLYNOMIALS:
+            sheet = sheet_of([drawn._replace(kind=kind)])
+            yield ask_formula(sheet, 1)
+            yield ask_evaluate(sheet, 1, argument)
 
 
 # The door.
@@ -295,8 +392,8 @@ def doubles_at_steps(rng):
 def doubles_at_the_ends(rng):
     """Doubles at each end of an interval, half a step inside and outside it,
     and next to those."""
-    for _ in range(40):
-        formula = good_formula(rng, rng.choice((POLYNOMIAL, ROOT)), p=1)
+    for kind in (POLYNOMIAL, ROOT) * 20 + (ODD, EVEN) * 2:
+        formula = good_formula(rng, kind, p=1)
         for formula in (formula, IDENTITY._replace(
                 lo=formula.lo, hi=formula.hi)):
             sheet = sheet_of([formula])
@@ -320,7 +417,9 @@ def special_doubles(rng):
         INFINITY + (1 << 51) + 1, INFINITY + (1 << 52) - 1)
     narrow = IDENTITY._replace(lo=1, hi=ONE)
     constant = polynomial((-ONE,), -1, 0)
-    for formula in (IDENTITY, narrow, constant):
+    odd = polynomial((ONE,), -ONE, ONE, ODD)
+    even = polynomial((0, ONE), -ONE, ONE, EVEN)
+    for formula in (IDENTITY, narrow, constant, odd, even):
         sheet = sheet_of([formula])
         for pattern in patterns:
             for either in both_signs(pattern):
@@ -355,22 +454,25 @@ def random_doubles(rng):
 
 def doubles_through_formulas(rng):
     """Answers as doubles, of every kind, with plus zero among them."""
-    for kind in (POLYNOMIAL, RATIONAL, FRACTION, ROOT) * 20:
+    for kind in KINDS * 20:
         formula = good_formula(rng, kind)
         sheet = sheet_of([formula])
         yield ask_interval(sheet, 1)
         for argument in arguments(rng, formula):
             yield ask_double(sheet, 1, pattern_of(argument))
-    for words in ((0,), (0, 0), (0, 1), (0, -1)):
-        sheet = sheet_of([polynomial(words, -ONE // 4, ONE // 4)])
-        for argument in (-ONE // 4, -1, 0, 1, ONE // 4):
-            yield ask_double(sheet, 1, pattern_of(argument))
+    for kind in POLYNOMIALS:
+        for words in ((0,), (0, 0), (0, 1), (0, -1)):
+            sheet = sheet_of([polynomial(words, -ONE // 4, ONE // 4, kind)])
+            for argument in (-ONE // 4, -1, 0, 1, ONE // 4):
+                yield ask_double(sheet, 1, pattern_of(argument))
 
 
 GROUPS = (
-    checked_by_hand, polynomial_limits, values_between_the_ends,
-    rational_limits, quotient_limits, seven_and_eight_in_rationals,
-    fraction_limits, products_in_fractions, squares_in_fractions,
-    product_ties, quotient_ties, quotients, roots, fractions,
-    long_polynomials, doubles_at_steps, doubles_at_the_ends, special_doubles,
-    largest_doubles, random_doubles, doubles_through_formulas)
+    checked_by_hand, polynomial_limits, last_products, squares_alone,
+    values_between_the_ends, rational_limits, quotient_limits,
+    seven_and_eight_in_rationals, fraction_limits, products_in_fractions,
+    squares_in_fractions, product_ties, ties_with_squares, rounded_squares,
+    quotient_ties, quotients, roots, fractions, long_polynomials,
+    full_polynomials, odd_and_even_arguments, the_same_under_three_kinds,
+    doubles_at_steps, doubles_at_the_ends, special_doubles, largest_doubles,
+    random_doubles, doubles_through_formulas)

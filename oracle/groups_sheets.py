@@ -5,10 +5,12 @@ from struct import pack
 from door import pattern_of
 from faults import (
     END_FAULTS, START_FAULTS, formula_faults, one_or_two, spoilt)
-from formulas import FRACTION, POLYNOMIAL, RATIONAL, ROOT, SHAPES, Formula
+from formulas import (
+    EVEN, FRACTION, ODD, POLYNOMIAL, POLYNOMIALS, RATIONAL, ROOT, SHAPES,
+    Formula)
 from makers import (
-    KINDS, arguments, every_shape, framed, good_formula, good_formulas,
-    records_of, run_of, sheet_of, word)
+    KINDS, KINDS_AND_MODES, arguments, every_shape, framed, good_formula,
+    good_formulas, records_of, run_of, sheet_of, word)
 from number import M, NO_WORD, ONE
 from questions import (
     ask_count, ask_double, ask_evaluate, ask_formula, ask_interval)
@@ -93,7 +95,8 @@ def largest_sheets(rng):
 
 def sheets_to_damage(rng):
     """A few accepted sheets, each with a number that is there."""
-    for kinds in ((ROOT,), (POLYNOMIAL, RATIONAL), (FRACTION, ROOT, FRACTION)):
+    for kinds in ((ROOT,), (POLYNOMIAL, RATIONAL), (FRACTION, ROOT, FRACTION),
+                  (ODD, EVEN)):
         formulas = [good_formula(rng, kind, 5 * i + 1, p=2, q=2)
                     for i, kind in enumerate(kinds)]
         yield sheet_of(formulas), formulas[-1].number
@@ -139,8 +142,7 @@ def bytes_after_the_end(rng):
 def faults_at_formulas(rng):
     """One and two faults at a formula record, the first or a later one: every
     order of two refusals."""
-    for kind, mode in ((POLYNOMIAL, 0), (RATIONAL, 0), (FRACTION, 0),
-                       (FRACTION, 1), (FRACTION, 2), (ROOT, 0)):
+    for kind, mode in KINDS_AND_MODES:
         around = [good_formula(rng, ROOT, 10), good_formula(rng, ROOT, 30)]
         aimed = good_formula(rng, kind, 20, p=3, q=2, mode=mode)
         for at, formulas in ((1, [aimed, around[1]]),
@@ -165,8 +167,8 @@ def faults_at_start_and_end(rng):
 def faults_at_two_records(rng):
     """One fault at each of two records: the earlier record decides, whatever
     the refusals' order."""
-    kinds = POLYNOMIAL, RATIONAL, FRACTION
-    for _ in range(600):
+    for kinds in (((POLYNOMIAL, RATIONAL, FRACTION),) * 600
+                  + ((ODD, EVEN, ROOT),) * 200):
         formulas = [good_formula(rng, kind, 10 * i, p=2, q=2)
                     for i, kind in enumerate(kinds)]
         tables = [START_FAULTS, *(formula_faults(f.kind, f.p)
@@ -217,8 +219,8 @@ def start_and_end_counts(rng):
 def kinds_and_lengths(rng):
     """Every kind, known or not, in records of every length from 8 to 120 or
     just outside; the bytes that such a length counts are all there."""
-    kinds = (START, END, *KINDS, 0x0000, 0x0002, 0x000F, 0x0014, 0x1000,
-             0x1100, 0xFF10, 0xFFFE)
+    kinds = (START, END, *KINDS, 0x0000, 0x0002, 0x000F, 0x0016, 0x1000,
+             0x1100, 0x1400, 0xFF10, 0xFF15, 0xFFFE)
     for kind in kinds:
         lengths = (0, 4, 7, 8, 9, 16, 119, 120, 121)
         for length in range(6, 123) if kind in SHAPES else lengths:
@@ -233,9 +235,10 @@ def kinds_and_lengths(rng):
 def counts_of_coefficients(rng):
     """Counts, depths and modes at their ranges' ends and just beyond, stored
     in records as long as they say (if 120 bytes allow it) or in others."""
-    for m in (0, 1, 2, 15, 16, 17, 26):
-        yield ask_count(sheet_of([Formula(
-            POLYNOMIAL, 1, 0, 0, 0, 0, 0, (1,) * m)]))
+    for kind in POLYNOMIALS:
+        for m in (0, 1, 2, 15, 16, 17, 26):
+            yield ask_count(sheet_of([Formula(
+                kind, 1, 0, 0, 0, 0, 0, (1,) * m)]))
     edges = 0, 1, 2, 11, 12, 13, 14, 24, 25, 65535
     for p in edges:
         for q in edges:
@@ -252,7 +255,8 @@ def stored_values(rng):
     """Every stored word at the words' limits and at the pattern that is no
     word; lo and hi equal, next to each other and the wrong way round."""
     edges = NO_WORD, -M, 1 - M, -1, 0, 1, M - 1, M
-    for formula in (Formula(POLYNOMIAL, 9, 0, 0, 1, 0, 0, (1,)),
+    for formula in (*(Formula(kind, 9, 0, 0, 1, 0, 0, (1,))
+                      for kind in POLYNOMIALS),
                     Formula(RATIONAL, 9, 0, 0, 1, 1, 0, (1, 1)),
                     Formula(FRACTION, 9, 0, 0, 1, 0, 0, (0, 0, 1)),
                     Formula(ROOT, 9, 0, 0, 0, 0, 0, ())):
@@ -262,7 +266,7 @@ def stored_values(rng):
                 yield ask_formula(sheet, 9)
                 yield ask_evaluate(sheet, 9, lo)
                 yield ask_interval(sheet, 9)
-    for kind in (POLYNOMIAL, RATIONAL, FRACTION):
+    for kind in (*POLYNOMIALS, RATIONAL, FRACTION):
         formula = good_formula(rng, kind, 1, p=3, q=3)
         for i in range(len(formula.words)):
             for edge in edges:

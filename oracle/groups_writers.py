@@ -1,10 +1,12 @@
 """Groups of vectors aimed at the record writer and the sheet writer."""
 
+from by_hand import ADMISSIONS, ODD_AND_EVEN_ADMISSIONS
 from faults import KIND_AT, field, one_or_two, run_faults, spoilt
 from formulas import (
-    FRACTION, POLYNOMIAL, RATIONAL, ROOT, Formula, record_length)
+    EVEN, FRACTION, ODD, POLYNOMIAL, RATIONAL, ROOT, Formula, record_length)
 from makers import (
-    KINDS, every_shape, good_formula, good_formulas, records_of, run_of, word)
+    KINDS, KINDS_AND_MODES, every_shape, good_formula, good_formulas,
+    records_of, run_of, word)
 from number import M, NO_WORD
 from questions import FIELD_WORDS, ask_record, ask_sheet
 from sheet import END
@@ -55,7 +57,7 @@ def record_counts(rng):
     """Counts, depths and modes at their ranges' ends, beyond, and far beyond;
     kinds that are no formula."""
     edges = 0, 1, 2, 11, 12, 13, 15, 16, 17, 32, 33, 256, 65535
-    for kind in (*KINDS, 0x0000, 0x0001, 0x000F, 0x0014, 0xFFFF):
+    for kind in (*KINDS, 0x0000, 0x0001, 0x000F, 0x0016, 0xFFFF):
         for p in edges:
             for q in edges if kind == RATIONAL else (0, 1):
                 for mode in (0, 2, 3, 65535) if kind == FRACTION else (0, 3):
@@ -95,6 +97,8 @@ def field_faults(formula):
     faults = []
     if kind != ROOT:
         faults += [(7, changed(lo=-M, hi=M, words=(M,) * FIELD_WORDS))]
+    if kind in (ODD, EVEN):
+        faults += [(7, changed(lo=-M, hi=M, words=(0,) * FIELD_WORDS))]
     if kind == RATIONAL:
         faults += [(8, word_changed(p, 0)), (2, changed(q=13))]
     if kind == FRACTION:
@@ -105,14 +109,13 @@ def field_faults(formula):
     return faults + [
         (6, changed(lo=M, hi=-M)), (6, changed(lo=NO_WORD)),
         (6, changed(hi=NO_WORD)), (3, changed(kind=0x0001)),
-        (3, changed(kind=0x0014)), (3, changed(kind=END))]
+        (3, changed(kind=0x0016)), (3, changed(kind=END))]
 
 
 def record_faults(rng):
     """One and two faults in the fields, with room enough and with too little
     (12): every order of two refusals."""
-    for kind, mode in ((POLYNOMIAL, 0), (RATIONAL, 0), (FRACTION, 0),
-                       (FRACTION, 1), (FRACTION, 2), (ROOT, 0)):
+    for kind, mode in KINDS_AND_MODES:
         formula = good_formula(rng, kind, 3, p=3, q=2, mode=mode)
         for faults in one_or_two(field_faults(formula)):
             fields = formula
@@ -120,6 +123,13 @@ def record_faults(rng):
                 fields = spoil(fields)
             yield ask_record(fields, needed(formula))
             yield ask_record(fields, needed(formula) - 1)
+
+
+def admissions_by_hand(rng):
+    """Admission's cases by hand, put to both writers."""
+    for formula, _ in (*ADMISSIONS, *ODD_AND_EVEN_ADMISSIONS):
+        yield ask_record(formula, needed(formula))
+        yield ask_sheet(record_of(formula), needed(formula) + 16)
 
 
 # The sheet writer.
@@ -144,7 +154,8 @@ def runs(rng):
 def sheet_rooms(rng):
     """Every room from none to two bytes more than the sheet needs; no room
     and some with an empty run."""
-    for kinds in ((ROOT,), (POLYNOMIAL, RATIONAL), (FRACTION, ROOT)):
+    for kinds in ((ROOT,), (POLYNOMIAL, RATIONAL), (FRACTION, ROOT),
+                  (ODD, EVEN)):
         run = run_of([good_formula(rng, kind, i, p=1, q=1)
                       for i, kind in enumerate(kinds)])
         for room in range(len(run) + 19):
@@ -178,7 +189,7 @@ def run_faults_anywhere(rng):
     the last: places count from the new sheet's first byte."""
     end_record = 3, field(KIND_AT, "H", END)
     for kind, mode in ((POLYNOMIAL, 0), (RATIONAL, 0), (FRACTION, 0),
-                       (FRACTION, 2), (ROOT, 0)):
+                       (FRACTION, 2), (ROOT, 0), (ODD, 0), (EVEN, 0)):
         before, after = good_formula(rng, ROOT, 4), good_formula(rng, ROOT, 6)
         aimed = good_formula(rng, kind, 5, p=3, q=2, mode=mode)
         for at, formulas in ((0, [aimed, after]), (1, [before, aimed, after]),
@@ -204,5 +215,5 @@ def faults_at_the_65th(rng):
 
 GROUPS = (
     records_of_every_shape, record_rooms, fields_not_had, record_counts,
-    record_values, record_faults, runs, sheet_rooms, cut_runs, left_over,
-    run_faults_anywhere, faults_at_the_65th)
+    record_values, record_faults, admissions_by_hand, runs, sheet_rooms,
+    cut_runs, left_over, run_faults_anywhere, faults_at_the_65th)

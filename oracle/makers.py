@@ -6,12 +6,16 @@ Only whole-number draws are used (getrandbits, randrange, choice).
 from struct import pack
 
 from formulas import (
-    FRACTION, ROOT, SHAPES, Formula, factor, verdict, word_count)
+    FRACTION, ODD, POLYNOMIAL, ROOT, SHAPES, Formula, bounds, factor, verdict,
+    word_count)
 from number import M, ONE, bound_product, bound_quotient
 from sheet import END, START
 from writing import record_of, start_or_end
 
 KINDS = tuple(SHAPES)
+MODES = {kind: range(3) if kind == FRACTION else range(1) for kind in KINDS}
+KINDS_AND_MODES = tuple(
+    (kind, mode) for kind, modes in MODES.items() for mode in modes)
 EDGES = (0, 1, -1, 2, ONE // 2, -ONE // 2, ONE, -ONE, ONE - 1, ONE + 1, M - 1,
          1 - M, M, -M)
 
@@ -34,6 +38,11 @@ def word(rng):
 def near_one(rng):
     """A word between -4 and 4, as most printed coefficients are."""
     return rng.randrange(-4 * ONE, 4 * ONE + 1)
+
+
+def largest(formula):
+    """A of Admission."""
+    return max(abs(formula.lo), abs(formula.hi))
 
 
 def interval(rng, kind):
@@ -68,7 +77,7 @@ def every_shape():
     for kind, shape in SHAPES.items():
         for p in shape.p:
             for q in shape.q:
-                for mode in range(3) if kind == FRACTION else (0,):
+                for mode in MODES[kind]:
                     yield {"kind": kind, "p": p, "q": q, "mode": mode}
 
 
@@ -80,8 +89,8 @@ def good_formula(rng, kind, number=1, p=None, q=None, mode=None):
         p = rng.choice(shape.p)
     if q not in shape.q:
         q = rng.choice(shape.q)
-    if mode is None or kind != FRACTION:
-        mode = rng.randrange(3) if kind == FRACTION else 0
+    if mode not in MODES[kind]:
+        mode = rng.choice(MODES[kind])
     while True:
         lo, hi = interval(rng, kind)
         if kind == FRACTION:
@@ -92,6 +101,25 @@ def good_formula(rng, kind, number=1, p=None, q=None, mode=None):
         formula = Formula(kind, number, lo, hi, p, q, mode, words)
         if verdict(formula) == 0:
             return formula
+
+
+def most_below(upper):
+    """The largest |c0| that Admission takes below the coefficients of a good
+    polynomial, odd or even formula; below 0 if it takes none."""
+    a = largest(upper)
+    at = a if upper.kind == POLYNOMIAL else bound_product(a, a)
+    most = M * ONE // a if upper.kind == ODD and a > ONE else M
+    return most - bound_product(bounds(upper.words, at)[0], at)
+
+
+def full_polynomial(rng, kind):
+    """An accepted one of the three kinds, no coefficient below 0, whose c0
+    could not be a step larger."""
+    while True:
+        upper = good_formula(rng, kind, p=1 + rng.randrange(15))
+        words = most_below(upper), *map(abs, upper.words)
+        if words[0] >= 0:
+            return upper._replace(p=len(words), words=words)
 
 
 def good_formulas(rng, count):

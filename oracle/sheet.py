@@ -1,9 +1,12 @@
-"""Reading a sheet (paper 01, 'Sheet layout' and 'Refusal numbers')."""
+"""Reading a sheet (paper 01, 'Sheet layout' and 'Refusal numbers').
+
+A polynomial, an odd and an even formula are laid out alike (request M-100).
+"""
 
 from struct import unpack_from
 
 from formulas import (
-    FRACTION, POLYNOMIAL, RATIONAL, SHAPES, Formula, counts_in_range,
+    FRACTION, POLYNOMIALS, RATIONAL, SHAPES, Formula, counts_in_range,
     record_length, verdict, word_count)
 from refusal import Refused
 
@@ -51,7 +54,7 @@ def formula_in(record, place):
         raise Refused(2, place)
     number, lo, hi = unpack_from("<Hii", record, 6)
     p = q = mode = 0
-    if kind == POLYNOMIAL:
+    if kind in POLYNOMIALS:
         p = (len(record) - head) // 4
     elif kind == RATIONAL:
         p, q = unpack_from("<HH", record, 16)

@@ -1,12 +1,12 @@
 """Slow, obvious definitions for the self-test, in exact fractions.
 
-Each follows the paper's sentence word by word and shares no arithmetic with
-the modules it is compared with.
+Each follows a sentence of the paper, or of request M-100, word by word and
+shares no arithmetic with the modules it is compared with.
 """
 
 from fractions import Fraction
 
-from formulas import FRACTION, POLYNOMIAL, RATIONAL
+from formulas import EVEN, FRACTION, ODD, POLYNOMIAL, POLYNOMIALS, RATIONAL
 
 STEPS = 2**24
 LARGEST = 2**31 - 1
@@ -49,8 +49,27 @@ def root(x):
     return r
 
 
+def walk(c, x):
+    """Every product and running word of a polynomial, the answer last."""
+    if len(c) == 1:
+        return [c[0]]
+    met = walk(c[1:], x)
+    taken = product(met[-1], x)
+    return [*met, taken, c[0] + taken]
+
+
 def polynomial(c, x):
-    return c[0] if len(c) == 1 else c[0] + product(polynomial(c[1:], x), x)
+    return walk(c, x)[-1]
+
+
+def numbers_met(formula, x):
+    """All that a polynomial meets on its way, with an odd or even one's s at
+    the beginning and an odd one's last product at the end."""
+    if formula.kind == POLYNOMIAL:
+        return walk(formula.words, x)
+    s = product(x, x)
+    met = [s, *walk(formula.words, s)]
+    return [*met, product(met[-1], x)] if formula.kind == ODD else met
 
 
 def fraction(b_and_a, v):
@@ -67,13 +86,33 @@ def factors(mode, depth, x, s):
 
 def answer(formula, x):
     words, p = formula.words, formula.p
-    if formula.kind == POLYNOMIAL:
-        return polynomial(words, x)
+    if formula.kind in POLYNOMIALS:
+        return numbers_met(formula, x)[-1]
     if formula.kind == RATIONAL:
         return quotient(polynomial(words[:p], x), polynomial(words[p:], x))
     if formula.kind == FRACTION:
         return fraction(words, factors(formula.mode, p, x, product(x, x)))
     return root(x)
+
+
+def exact_and_distance(c, x):
+    """A polynomial's exact value at a word x, in steps, and how far from it
+    the answer may lie: half of 1 + |x| + ... + |x|^(n-1), x in ones."""
+    in_ones = Fraction(x, STEPS)
+    exact = sum(c_k * in_ones**k for k, c_k in enumerate(c))
+    return exact, sum(abs(in_ones)**k for k in range(len(c) - 1)) / Fraction(2)
+
+
+def near_enough(formula, x, found):
+    """Demand 3's distance; an odd or even formula's is said at the rounded s,
+    and an odd one's is |x| times that, plus one half, of x times the value."""
+    at = x if formula.kind == POLYNOMIAL else product(x, x)
+    exact, distance = exact_and_distance(formula.words, at)
+    if formula.kind == ODD:
+        in_ones = Fraction(x, STEPS)
+        exact *= in_ones
+        distance = abs(in_ones) * distance + Fraction(1, 2)
+    return abs(found - exact) <= distance
 
 
 class Left(Exception):
@@ -131,6 +170,11 @@ def admit(formula):
         if formula.mode > 0:
             inside(s)
         admit_fraction(words, factors(formula.mode, p, a, s))
+    elif formula.kind == EVEN:
+        bound(words, inside(bound_product(a, a)))
+    elif formula.kind == ODD:
+        b_0 = bound(words, inside(bound_product(a, a)))
+        inside(bound_product(b_0, a))
 
 
 def admission(formula):
