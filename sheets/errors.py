@@ -58,6 +58,10 @@ def unrounded(kind, parts, mode, x):
     """The value of a formula in doubles."""
     if kind == "polynomial":
         return horner(parts[0], x)
+    if kind == "odd":
+        return x * horner(parts[0], x * x)
+    if kind == "even":
+        return horner(parts[0], x * x)
     if kind == "rational":
         return horner(parts[0], x) / horner(parts[1], x)
     if kind == "fraction":
@@ -108,13 +112,34 @@ def measure(printed, count):
     return Errors(bound, own, answer, missed)
 
 
-def rounding_is_small(printed, count):
-    """Whether a polynomial's answers keep near the printed polynomial.
+def walk_bound(count, v):
+    """What typing and rounding cost a polynomial of `count` numbers at most.
 
-    Typing its n + 1 numbers costs at most half a step each, times |x|^k, and
-    its n rounded products at most half of 1 + |x| + .. + |x|^(n-1).
+    Where |x| is v, each number costs half a step, times its power of v, and
+    the rounded products cost half of 1 + v + .. + v^(count-2).
     """
-    n = len(printed.parts[0]) - 1
+    return horner([1] * (count - 1) + [0.5], v)
+
+
+def rounding_bound(kind, numbers, x):
+    """What typing and rounding cost a formula of these numbers at most.
+
+    An even one is its polynomial at s, which lies within half a step of x*x;
+    that costs half of the polynomial's slope. An odd one is the product of
+    that and x.
+    """
+    if kind == "polynomial":
+        return walk_bound(len(numbers), abs(x))
+    most = x * x + 0.5 / ONE  # neither x*x nor s is above it
+    slope = horner([k * abs(c) for k, c in enumerate(numbers)][1:], most)
+    even = walk_bound(len(numbers), most) + slope / 2
+    return even if kind == "even" else abs(x) * even + 0.5
+
+
+def rounding_is_small(printed, count):
+    """Whether answers keep as near to the printed formula as they should."""
+    numbers = [float(value) for value in printed.parts[0]]
     return all(
-        abs(point.answer - point.own) <= horner([1] * n + [0.5], abs(point.x))
+        abs(point.answer - point.own)
+        <= rounding_bound(printed.kind, numbers, point.x)
         for point in points(printed, count))

@@ -1,7 +1,7 @@
 #!/usr/bin/env python3
 """Makes formula sheets from a text of formulas.
 
-    make.py                      the ready sheets and the table in README.md,
+    make.py                      the ready sheets and the tables in README.md,
                                  from formulas.txt, all beside this program
     make.py TEXT --out FOLDER    the sheets of a text of your own
     make.py --out FOLDER         the ready sheets, in another folder
@@ -24,13 +24,14 @@ sys.path.insert(1, str(HERE.parent / "oracle"))
 
 from errors import NoValue, measure
 from folder import Taken, left_over, put_sheets
+from padding import is_odd_or_even, measure_padded
 from paragraphs import Fault, Faults, decoded
 from printed import EVERYTHING, read_formulas
 from ready import (
-    Tally, check_answers, check_files, check_rounding, check_table)
+    Tally, check_answers, check_files, check_rounding, check_tables)
 from sheet import MOST_FORMULAS
 from sheet_bytes import sheets_of
-from table import page_with_table, rounded_up
+from table import page_with_tables, rounded_up
 
 README = HERE / "README.md"
 READY = HERE / "formulas.txt"
@@ -118,20 +119,29 @@ def make_own(path, name, folder):
     return make(path, folder, *formulas_in(path, name, [], SAMPLE), {})
 
 
+def ready_formulas(count):
+    """The ready formulas, their errors, and the odd and even ones padded."""
+    all_printed, all_errors = formulas_in(READY, READY.name, READY_HAVE, count)
+    all_padded = [measure_padded(printed, count)
+                  for printed in filter(is_odd_or_even, all_printed)]
+    return all_printed, all_errors, all_padded
+
+
 def make_ready():
-    found = formulas_in(READY, READY.name, READY_HAVE, DENSE)
-    page = page_with_table(README.read_bytes(), *found)
-    return make(READY, HERE, *found, {README.name: page})
+    all_printed, all_errors, all_padded = ready_formulas(DENSE)
+    page = page_with_tables(
+        README.read_bytes(), all_printed, all_errors, all_padded)
+    return make(READY, HERE, all_printed, all_errors, {README.name: page})
 
 
 def check_ready():
     """Makes the ready sheets anew and compares; a last line has the counts."""
-    all_printed, all_errors = formulas_in(
-        READY, READY.name, READY_HAVE, SAMPLE)
+    all_printed, all_errors, all_padded = ready_formulas(SAMPLE)
     tally = Tally()
     check_files(tally, HERE, f"{READY.stem}.sha256", all_printed)
     check_answers(tally, all_printed)
-    check_table(tally, README.read_bytes(), all_printed, all_errors)
+    check_tables(
+        tally, README.read_bytes(), all_printed, all_errors, all_padded)
     check_rounding(tally, all_printed, SAMPLE)
     print(f"{tally.passed} passed, {tally.failed} failed")
     return 1 if tally.failed else 0

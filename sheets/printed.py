@@ -6,26 +6,30 @@ from collections import Counter
 from fractions import Fraction
 from typing import NamedTuple
 
-from formulas import FRACTION, POLYNOMIAL, RATIONAL, ROOT, SHAPES, Formula
+from formulas import (
+    EVEN, FRACTION, ODD, POLYNOMIAL, RATIONAL, ROOT, SHAPES, Formula)
 from functions import FUNCTIONS
 from paragraphs import Fault, read_paragraphs, shown
 from sheet import MOST_FORMULAS
 from typed import ends, exact, nearest_word, numbers
 from width import refusal_told
 
-KINDS = {
-    "polynomial": POLYNOMIAL,
-    "rational": RATIONAL,
-    "fraction": FRACTION,
-    "root": ROOT,
-}
 
-# The lines that hold a formula's numbers, in stored order.
-PARTS = {
-    "polynomial": ["coefficients"],
-    "rational": ["numerator", "divisor"],
-    "fraction": ["coefficients"],
-    "root": [],
+class Kind(NamedTuple):
+    """What a text says of a kind."""
+
+    code: int
+    told: str  # as a fault names it
+    parts: list  # the lines that hold the numbers, in stored order
+
+
+KINDS = {
+    "polynomial": Kind(POLYNOMIAL, "a polynomial", ["coefficients"]),
+    "odd": Kind(ODD, "an odd formula", ["coefficients"]),
+    "even": Kind(EVEN, "an even formula", ["coefficients"]),
+    "rational": Kind(RATIONAL, "a rational", ["numerator", "divisor"]),
+    "fraction": Kind(FRACTION, "a fraction", ["coefficients"]),
+    "root": Kind(ROOT, "a root", []),
 }
 
 EVERY_FORMULA = ["sheet", "number", "kind", "interval"]
@@ -130,7 +134,7 @@ READERS = {
 def name_faults(paragraph, kind, also_needed):
     """The names that are missing, and those that the kind has not."""
     fields = paragraph.fields
-    own = list(PARTS.get(kind, []))
+    own = list(KINDS[kind].parts) if kind else []
     if kind == "fraction":
         own.append("mode")
     missing = [name for name in EVERY_FORMULA + own + also_needed
@@ -140,13 +144,15 @@ def name_faults(paragraph, kind, also_needed):
                     "line ends a formula)")
     for name in SOME_KINDS:
         if kind and name in fields and name not in own:
-            yield Fault(fields[name].line, f"a {kind} has no {name}")
+            yield Fault(fields[name].line,
+                        f"{KINDS[kind].told} has no {name}")
 
 
 def counts_of(kind, fields, parts):
     """p and q of a formula, where they are in range."""
     counts = [len(words) for _, words in parts]
-    shape = SHAPES[KINDS[kind]]
+    code, told, names = KINDS[kind]
+    shape = SHAPES[code]
     if kind == "fraction":
         depth, rest = divmod(counts[0] - 1, 2)
         if rest or depth not in shape.p:
@@ -155,9 +161,9 @@ def counts_of(kind, fields, parts):
                         f"{shape.p[0]} to {shape.p[-1]}; numbers here: "
                         f"{counts[0]}")
         return depth, 0
-    for name, count, allowed in zip(PARTS[kind], counts, (shape.p, shape.q)):
+    for name, count, allowed in zip(names, counts, (shape.p, shape.q)):
         if count not in allowed:
-            raise Fault(fields[name].line, f"the line {name} of a {kind} has "
+            raise Fault(fields[name].line, f"the line {name} of {told} has "
                         f"{allowed[0]} to {allowed[-1]} numbers; numbers "
                         f"here: {count}")
     return (counts + [0, 0])[:2]
@@ -165,11 +171,11 @@ def counts_of(kind, fields, parts):
 
 def formula_of(kind, fields, read):
     """The formula in words, where a sheet would be accepted with it."""
-    parts = [read[name] for name in PARTS[kind]]
+    parts = [read[name] for name in KINDS[kind].parts]
     p, q = counts_of(kind, fields, parts)
     words = tuple(word for _, words in parts for word in words)
-    formula = Formula(KINDS[kind], read["number"], *read["interval"], p, q,
-                      read.get("mode", 0), words)
+    formula = Formula(KINDS[kind].code, read["number"], *read["interval"],
+                      p, q, read.get("mode", 0), words)
     if kind == "root" and formula.lo < 0:
         raise Fault(fields["interval"].line, "a root has no argument below 0")
     refusal = refusal_told(formula)
@@ -194,7 +200,7 @@ def printed_of(paragraph, also_needed, faults):
     return Printed(
         read["sheet"], read.get("function", ""), kind, fields["interval"].text,
         read.get("source", ""), read.get("remark", ""),
-        [read[name][0] for name in PARTS[kind]],
+        [read[name][0] for name in KINDS[kind].parts],
         *read.get("bound", (None, False)), formula,
         {name: field.line for name, field in fields.items()})
 

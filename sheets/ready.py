@@ -1,13 +1,16 @@
-"""The check of the ready sheets: their bytes, their answers, their table."""
+"""The check of the ready sheets: their bytes, their answers, their tables."""
 
 from errors import arguments, rounding_is_small
 from evaluation import answer_inside, evaluate
 from folder import content_at, list_of
 from number import ONE
+from padding import is_odd_or_even
 from refusal import Refused
 from sheet import MOST_FORMULAS, read
 from sheet_bytes import formulas_by_sheet, sheet_of, sheets_of
-from table import HEADING, measured_cells, stored_cells, table
+from table import (
+    COMPARED, HEADING, MEASURED, compared_cells, made_part, measured_cells,
+    stored_cells)
 
 # Cases that paper 01 has worked by hand: number, argument, answer.
 BY_HAND = [
@@ -74,26 +77,50 @@ def check_answers(tally, all_printed):
                    asked(first, number, argument) == answer)
 
 
-def check_table(tally, page, all_printed, all_errors):
-    """README.md against formulas.txt, its errors against these."""
-    _, heading, part = page.decode("utf-8", "replace").partition(HEADING)
-    all_stored = stored_cells(part)
-    tally.hold("README.md: a row for each formula",
-               len(all_stored) == len(all_printed))
-    tally.hold("README.md: as made",
-               heading + part == table(all_printed, all_stored))
+def not_above(cell, stored):
+    """Whether an error is not above the stored one; a dash is no error."""
+    if "–" in (cell, stored):
+        return cell == stored
+    return float(cell) <= float(stored)
+
+
+def check_measured(tally, all_printed, all_errors, all_stored):
     for printed, errors, stored in zip(all_printed, all_errors, all_stored):
         number = printed.formula.number
         bound, own, kept, answer = measured_cells(errors)
         tally.hold(f"{number}: bound", bound == stored[0])
-        tally.hold(f"{number}: own error", float(own) <= float(stored[1]))
+        tally.hold(f"{number}: own error", not_above(own, stored[1]))
         tally.hold(f"{number}: bound kept", kept in (stored[2], "yes"))
-        tally.hold(f"{number}: error", float(answer) <= float(stored[3]))
+        tally.hold(f"{number}: error", not_above(answer, stored[3]))
+
+
+def check_compared(tally, all_printed, all_padded, all_stored):
+    for printed, padded, stored in zip(all_printed, all_padded, all_stored):
+        number = printed.formula.number
+        error, *lengths = compared_cells(printed, padded)
+        tally.hold(f"{number}: padded error", not_above(error, stored[0]))
+        tally.hold(f"{number}: bytes", lengths == stored[1:])
+
+
+def check_tables(tally, page, all_printed, all_errors, all_padded):
+    """README.md against formulas.txt, its errors against these."""
+    _, heading, part = page.decode("utf-8", "replace").partition(HEADING)
+    measured = stored_cells(MEASURED, part)
+    compared = stored_cells(COMPARED, part)
+    tally.hold("README.md: a row for each formula",
+               len(measured) == len(all_printed))
+    tally.hold("README.md: a row for each odd or even formula",
+               len(compared) == len(all_padded))
+    tally.hold("README.md: as made",
+               heading + part == made_part(all_printed, measured, compared))
+    check_measured(tally, all_printed, all_errors, measured)
+    check_compared(tally, filter(is_odd_or_even, all_printed), all_padded,
+                   compared)
 
 
 def check_rounding(tally, all_printed, count):
-    """Every polynomial's answers against the printed polynomial."""
+    """The answers of polynomials, odd and even ones too, against the print."""
     for printed in all_printed:
-        if printed.kind == "polynomial":
+        if printed.kind in ("polynomial", "odd", "even"):
             tally.hold(f"{printed.formula.number}: rounding",
                        rounding_is_small(printed, count))
