@@ -1,10 +1,15 @@
--- Demand 3: an accepted sheet's polynomial, at an argument in its interval, answers within half of 1 + |x| + .. + |x|^(n-1) steps of the exact value,
--- for n + 1 coefficients, said over whole numbers.
+-- Demand 3: the distance of an accepted sheet's answers, at every argument in the formula's interval, said over whole numbers for n + 1 coefficients.
+-- A polynomial answers within half of 1 + |x| + .. + |x|^(n-1) steps of the exact value; an even formula the same, of the polynomial's exact value at the
+-- rounded square and with the square for x; an odd one within |x| times that, plus one half, of x times that exact value.
 use Rattle.whole.proofs.Basics.{_≡_, _∙_, sym, ap, subst, List, ℕ, suc, _*_, _^_, _≤_, take, ℤ, pos, natAbs, _-ℤ_, _*ℤ_, _≤ℤ_}
 use Rattle.polynomial.specs.Distance.{exactSum, spreadSum}
-use Rattle.formula.proofs.Distance.{polynomialShape, polynomial-distance}
+use Rattle.odd_even.specs.OddEven.{squareOf}
+use Rattle.odd_even.specs.Distance.{oddExactSum, oddSpreadSum}
+use Rattle.formula.specs.declared.Formula.{Formula}
+use Rattle.formula.specs.declared.Kind.the-variants.{Polynomial, Odd, Even}
 use Rattle.formula.specs.declared.Shape.{Shape}
 use Rattle.formula.specs.Formula.{Sound, answerOf}
+use Rattle.formula.proofs.Distance.{ofDegree, polynomial-distance, even-distance, odd-distance}
 use Rattle.layout.specs.Fields.{wordsIn}
 use Rattle.sheet.specs.Reader.{HasFormula}
 use Rattle.sheet.proofs.FormulasGiven.{given-fits}
@@ -12,12 +17,29 @@ use Rattle.answering.specs.Answering.{evaluationWord}
 use Rattle.board.specs.Board.{evaluated}
 use Rattle.board.proofs.AnswersInside.{formulaGiven, answers-inside}
 
-pub sheet-distance : (s : ℕ) (bytes : List ℕ) (k : ℕ) → HasFormula s bytes k → (n q mode : ℕ) → formulaGiven s bytes k .shape ≡ polynomialShape n q mode → (x : ℤ) → formulaGiven s bytes k .lo ≤ℤ x → x ≤ℤ formulaGiven s bytes k .hi
-    → 2 * natAbs (evaluationWord (evaluated s bytes k x) *ℤ pos (2 ^ (s * n)) -ℤ exactSum s (take (suc n) (wordsIn (formulaGiven s bytes k))) n x) ≤ spreadSum s n x
-sheet-distance s bytes k given n q mode e x l h =
-    let f = formulaGiven s bytes k in
-    let ws = wordsIn f in
-    let sound = subst (λ (h : Shape). Sound h (f .lo) (f .hi) ws) e (given-fits s bytes k given .0 .sound) in
-    subst (λ (z : ℤ). 2 * natAbs (z *ℤ pos (2 ^ (s * n)) -ℤ exactSum s (take (suc n) ws) n x) ≤ spreadSum s n x)
-    (sym (ap evaluationWord (answers-inside s bytes k given x l h) ∙ ap (λ (h : Shape). answerOf s h ws x) e))
-    (polynomial-distance s n q mode (f .lo) (f .hi) ws x sound)
+-- the formula k of an accepted sheet that has it, at an argument in its interval
+module _ (s : ℕ) (bytes : List ℕ) (k : ℕ) (given : HasFormula s bytes k) (n q mode : ℕ) (x : ℤ) (l : formulaGiven s bytes k .lo ≤ℤ x) (h : x ≤ℤ formulaGiven s bytes k .hi) where
+  abbrev f : Formula
+  f = formulaGiven s bytes k
+
+  abbrev terms : List ℤ
+  terms = take (suc n) (wordsIn f)
+
+  abbrev answer : ℤ
+  answer = evaluationWord (evaluated s bytes k x)
+
+  -- by the shape that it has
+  sound : (h : Shape) → f .shape ≡ h → Sound h (f .lo) (f .hi) (wordsIn f)
+  sound h e = subst (λ (i : Shape). Sound i (f .lo) (f .hi) (wordsIn f)) e (given-fits s bytes k given .0 .sound)
+
+  answer-is : (h : Shape) → f .shape ≡ h → answer ≡ answerOf s h (wordsIn f) x
+  answer-is i e = ap evaluationWord (answers-inside s bytes k given x l h) ∙ ap (λ (j : Shape). answerOf s j (wordsIn f) x) e
+
+  pub sheet-distance : f .shape ≡ ofDegree Polynomial n q mode → 2 * natAbs (answer *ℤ pos (2 ^ (s * n)) -ℤ exactSum s terms n x) ≤ spreadSum s n x
+  sheet-distance e = rw (answer-is _ e) (polynomial-distance s n q mode (f .lo) (f .hi) (wordsIn f) x (sound _ e))
+
+  pub sheet-even-distance : f .shape ≡ ofDegree Even n q mode → 2 * natAbs (answer *ℤ pos (2 ^ (s * n)) -ℤ exactSum s terms n (squareOf s x)) ≤ spreadSum s n (squareOf s x)
+  sheet-even-distance e = rw (answer-is _ e) (even-distance s n q mode (f .lo) (f .hi) (wordsIn f) x (sound _ e))
+
+  pub sheet-odd-distance : f .shape ≡ ofDegree Odd n q mode → 2 * natAbs (answer *ℤ pos (2 ^ (s * suc n)) -ℤ oddExactSum s terms n x) ≤ oddSpreadSum s n x
+  sheet-odd-distance e = rw (answer-is _ e) (odd-distance s n q mode (f .lo) (f .hi) (wordsIn f) x (sound _ e))
