@@ -1,5 +1,5 @@
 -- The record writer's answers, a link at a time.
-use Rattle.whole.proofs.Basics.{_≡_, _∙_, refl, sym, ap, ap₂, Bool, true, false, cond, List, ℕ, _≤_, arith, eqb, ltb, length, take}
+use Rattle.whole.proofs.Basics.{_≡_, _∙_, refl, sym, ap, ap₂, Bool, true, false, cond, _⊎_, inl, inr, List, [], _∷_, ℕ, _≤_, arith, eqb, ltb, length, take, eq-eqb}
 use lib.Seq.{sets, take-append-seam}
 use Rattle.stored.proofs.StoreLaws.{sets-front}
 use Rattle.formula.specs.declared.Formula.{Formula}
@@ -17,23 +17,27 @@ use Rattle.faults.specs.Guard.{guard}
 use Rattle.faults.specs.Faults.{countFault, scaleFault}
 use Rattle.faults.proofs.Chain.{halts, goes}
 use Rattle.faults.proofs.Lengths.{counted}
+use Rattle.faults.proofs.FaultSets.{count-set}
+use Rattle.faults.specs.Refusals.{OneOf}
 use Rattle.records.specs.Records.{valueFault, onlyFormula}
 use Rattle.record_writer.specs.Answers.{writingPlace, refusedBy}
-use Rattle.record_writer.specs.RecordWriter.{roomWriting, plainWriting, recordWriting, judgedWriting, bytesOf}
+use Rattle.record_writer.specs.RecordWriter.{roomWriting, plainWriting, recordWriting, judgedWriting, bytesOf, countsFault, putSize}
 use Rattle.record_writer.specs.declared.answers.Writing.{Writing}
 use Rattle.record_writer.specs.declared.answers.Writing.the-variants.{Written}
-use Rattle.record_writer.proofs.RecordFaults.{check-same}
+use Rattle.record_writer.proofs.RecordFaults.{short-record, check-same}
 
 -- ---- a record's bytes at the front of an array are its first ones
 pub front-taken : (l a : List ℕ) (n : ℕ) → n ≡ length a → length a ≤ length l → take n (sets l 0 a) ≡ a
 front-taken l a n e h = rw (e, sets-front l a h) (take-append-seam a _)
 
 -- ---- past the counts: the record can be put together, and its bytes are judged as the formula is
-module _ (f : Formula) (c : rowBy f .class ≡ FormulaRecord) (n : countFault (rowBy f) (plainShape (rowBy f) (f .shape) .p) (plainShape (rowBy f) (f .shape) .q) ≡ 0) where
+module _ (f : Formula) (c : rowBy f .class ≡ FormulaRecord) (n : countsFault f ≡ 0) where
   pub ready : Ready (rowBy f) (plain f)
+  unfolding plainBy
   ready = let w = counted (rowBy f) _ _ n in handed.ready f c (w .0) (w .1)
 
   pub tidy : Handed f → Tidy (rowBy f) (plain f)
+  unfolding plainBy
   tidy h = let w = counted (rowBy f) _ _ n in handed.tidy f c (w .0) (w .1) h
 
   pub judged : (s room : ℕ) → Handed f → judgedWriting s (bytesOf f) room ≡ plainWriting s (rowBy f) (plain f) room
@@ -42,6 +46,30 @@ module _ (f : Formula) (c : rowBy f .class ≡ FormulaRecord) (n : countFault (r
       let d = tidy h in
       ap₂ (λ (fault size : ℕ). guard fault refusedBy (roomWriting size room)) (check-same (rowBy f) (plain f) d n s) (length-record (rowBy f) (plain f) (d .ready))
       ∙ sym (ap (λ (fault : ℕ). guard fault refusedBy (guard (valueFault s (rowBy f) (plain f .shape) (f .lo) (f .hi) (wordsIn (plain f))) refusedBy (roomWriting (lengthBy (rowBy f) (plain f .shape .p) (plain f .shape .q)) room))) n)
+
+-- ---- the length of what was put together tells the counts' fault: a record has 16 bytes or more
+module _ (f : Formula) (c : rowBy f .class ≡ FormulaRecord) (h : Handed f) where
+  counts-two : (countsFault f ≡ 0) ⊎ (countsFault f ≡ 2)
+  counts-two = at (count-set (2 ∷ []) (inr (inl refl)) (rowBy f) (plain f .shape .p) (plain f .shape .q))
+    where
+      at : {n : ℕ} → OneOf (0 ∷ 2 ∷ []) n → (n ≡ 0) ⊎ (n ≡ 2)
+      at (inl e) = inl e
+      at (inr (inl e)) = inr e
+      at (inr (inr e)) = absurd e
+
+  pub put-none : putSize f ≡ 0 → countsFault f ≡ 2
+  put-none z = at counts-two
+    where
+      at : (countsFault f ≡ 0) ⊎ (countsFault f ≡ 2) → countsFault f ≡ 2
+      at (inl e) = absurd (omega (arith, short-record (rowBy f) (plain f) (tidy f c e h) .0, rw (eq-eqb _ _ e) at z))
+      at (inr e) = e
+
+  pub put-some : (putSize f ≡ 0 → ⊥) → countsFault f ≡ 0
+  put-some n = at counts-two
+    where
+      at : (countsFault f ≡ 0) ⊎ (countsFault f ≡ 2) → countsFault f ≡ 0
+      at (inl e) = e
+      at (inr e) = absurd (n (rw e refl))
 
 -- ---- by the code of the formula's kind: a formula's, or none that a formula has
 module _ (s : ℕ) (f : Formula) (room n : ℕ) (e : n ≡ codeFor (f .shape .kind)) where

@@ -3,8 +3,9 @@ use Prim.Native.Nat.{ℕ}
 use mathlib.Core.Path.{_≡_, refl}
 use mathlib.Core.List.{List, [], _∷_}
 use mathlib.Core.Bool.{cond}
-use lib.Dec.{ltb}
+use lib.Dec.{eqb, ltb}
 use lib.ListN.{length, replicate}
+use lib.Seq.{sets}
 use lib.IntN.{pos}
 use Rattle.word.specs.Rounded.{roundedUp}
 use Rattle.stored.specs.Numbers.{bytes2, bytes4}
@@ -49,6 +50,16 @@ recordWriterRefusals = 3 ∷ 2 ∷ 6 ∷ 7 ∷ 8 ∷ 12 ∷ []
 abbrev pub bytesOf : Formula → List ℕ
 bytesOf f = recordBytes (rowBy f) (plain f)
 
+-- what is put together at the front of an array: the record and its length, or nothing and 0 where a count is outside its range
+abbrev pub countsFault : Formula → ℕ
+countsFault f = countFault (rowBy f) (plain f .shape .p) (plain f .shape .q)
+
+abbrev pub putSize : Formula → ℕ
+putSize f = cond (eqb (countsFault f) 0) (length (bytesOf f)) 0
+
+abbrev pub putInto : Formula → List ℕ → List ℕ
+putInto f l = cond (eqb (countsFault f) 0) (sets l 0 (bytesOf f)) l
+
 -- what the reader's own check makes of a record's bytes, as those of the first of one formula
 unfoldable pub judgedWriting : ℕ → List ℕ → ℕ → Writing
 judgedWriting s b room = guard (orElse (onlyFormula (rowFor b .class)) (formulaFault s (rowFor b) b 0 1 0)) refusedBy (roomWriting (length b) room)
@@ -78,6 +89,11 @@ root-places = (refl, refl, refl, refl)
 -- a polynomial with so many coefficients, all of them 0
 abbrev zeros : ℕ → Formula
 zeros n = formula 1 (shape Polynomial n 0 0) (pos 0) (pos 0) (replicate 32 (pos 0))
+
+-- 20 bytes are put together for one, none for 0 or 17
+sizes : (putSize (zeros 0) ≡ 0) × (putSize (zeros 1) ≡ 20) × (putSize (zeros 17) ≡ 0) × (putInto (zeros 17) (7 ∷ []) ≡ 7 ∷ [])
+unfolding rows firstRow rowOf codeFor bytes2 bytes4 piecesBy padded kept plainShape plainBy outside countFault frontBytes headBytes fieldBytes fieldsBytes wordBytes recordBytes
+sizes = (refl, refl, refl, refl)
 
 -- 1 to 16 coefficients
 counts :

@@ -6,11 +6,8 @@ ghost use Rattle.word.specs.Words.{Scale};
 ghost use Rattle.table.specs.Table.{rowOf};
 ghost use Rattle.table.specs.Codes.{codeFor};
 ghost use Rattle.table.specs.declared.Class.the-variants.{FormulaRecord};
-ghost use Rattle.putting.specs.Plain.{rowBy, plain};
-ghost use Rattle.faults.specs.Guard.{guard};
-ghost use Rattle.faults.specs.Faults.{scaleFault};
-ghost use Rattle.record_writer.specs.Answers.{refusedBy, bufferAfter};
-ghost use Rattle.record_writer.specs.RecordWriter.{plainWriting, judgedWriting, recordWriting, bytesOf};
+ghost use Rattle.record_writer.specs.Answers.{bufferAfter};
+ghost use Rattle.record_writer.specs.RecordWriter.{putSize, putInto, judgedWriting, recordWriting, bytesOf};
 
 pub mod answers;
 
@@ -35,43 +32,58 @@ fn copy_judged(bytes: &[u8], out: &mut [u8], s: u32) -> Writing
     Writing::Written(bytes.len())
 }
 
-// A formula of the kind that has the code.
-fn put_checked(f: Formula, code: u16, out: &mut [u8], s: u32) -> Writing
+// The record of a formula, put together at the front of an array by the row of the kind's code; 0 where a count is outside its range.
+fn put_by(f: Formula, code: u16, bytes: &mut [u8; 120]) -> usize
     requires code { ⌜ code ≡ codeFor (f .shape .kind) ⌝ }
     requires formula { ⌜ rowOf code .class ≡ FormulaRecord ⌝ }
-    ensures result { λ r. ⌜ r ≡ guard (scaleFault s) refusedBy (plainWriting s (rowBy f) (plain f) (length (now (out .entry)))) ⌝ }
-    ensures buffer { λ r. ⌜ now (out .exit) ≡ bufferAfter r (bytesOf f) (now (out .entry)) ⌝ }
+    ensures size { λ n. ⌜ n ≡ putSize f ⌝ }
+    ensures bytes { λ n. ⌜ now (bytes .exit) ≡ putInto f (now (bytes .entry)) ⌝ }
 {
-    let a = faults::scale_fault(s);
-    if a != 0 {
-        return answers::refused_by(a);
-    }
     let row = table::row_of(code);
     let given = f.shape;
     let shape = putting::plain_shape(row, given);
-    let b = parts::count_fault(row, shape.p, shape.q);
-    if b != 0 {
-        return answers::refused_by(b);
+    if parts::count_fault(row, shape.p, shape.q) != 0 {
+        return 0;
     }
-    let mut bytes = [0u8; 120];
-    let n = putting::put_record(row, shape, f, &mut bytes);
-    copy_judged(&bytes[..n], out, s)
+    putting::put_record(row, shape, f, bytes)
 }
 
 // The code of each kind by its name: the compiler then has the row's numbers as constants.
+fn put_any(f: Formula, code: u16, bytes: &mut [u8; 120]) -> usize
+    requires code { ⌜ code ≡ codeFor (f .shape .kind) ⌝ }
+    requires formula { ⌜ rowOf code .class ≡ FormulaRecord ⌝ }
+    ensures size { λ n. ⌜ n ≡ putSize f ⌝ }
+    ensures bytes { λ n. ⌜ now (bytes .exit) ≡ putInto f (now (bytes .entry)) ⌝ }
+{
+    match code {
+        table::POLYNOMIAL => put_by(f, table::POLYNOMIAL, bytes),
+        table::RATIONAL => put_by(f, table::RATIONAL, bytes),
+        table::FRACTION => put_by(f, table::FRACTION, bytes),
+        table::ROOT => put_by(f, table::ROOT, bytes),
+        table::ODD => put_by(f, table::ODD, bytes),
+        table::EVEN => put_by(f, table::EVEN, bytes),
+        _ => 0,
+    }
+}
+
 pub fn write_record(f: Formula, out: &mut [u8], s: u32) -> Writing
     ensures result { λ r. ⌜ r ≡ recordWriting s f (length (now (out .entry))) ⌝ }
     ensures buffer { λ r. ⌜ now (out .exit) ≡ bufferAfter r (bytesOf f) (now (out .entry)) ⌝ }
 {
     let given = f.shape;
     let kind = given.kind;
-    match table::code_for(kind) {
-        table::POLYNOMIAL => put_checked(f, table::POLYNOMIAL, out, s),
-        table::RATIONAL => put_checked(f, table::RATIONAL, out, s),
-        table::FRACTION => put_checked(f, table::FRACTION, out, s),
-        table::ROOT => put_checked(f, table::ROOT, out, s),
-        table::ODD => put_checked(f, table::ODD, out, s),
-        table::EVEN => put_checked(f, table::EVEN, out, s),
-        _ => answers::refused_by(3),
+    let code = table::code_for(kind);
+    if code == 0 {
+        return answers::refused_by(3);
     }
+    let a = faults::scale_fault(s);
+    if a != 0 {
+        return answers::refused_by(a);
+    }
+    let mut bytes = [0u8; 120];
+    let n = put_any(f, code, &mut bytes);
+    if n == 0 {
+        return answers::refused_by(2);
+    }
+    copy_judged(&bytes[..n], out, s)
 }

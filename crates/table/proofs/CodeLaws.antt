@@ -47,6 +47,17 @@ kind-of-row Odd = refl
 kind-of-row Even = refl
 kind-of-row NoFormula = refl
 
+-- a kind that has a code is a formula's
+pub class-of-row : (k : Kind) → (codeFor k ≡ 0 → ⊥) → rowOf (codeFor k) .class ≡ FormulaRecord
+unfolding rowOf codeFor firstRow rows
+class-of-row Polynomial h = refl
+class-of-row Rational h = refl
+class-of-row Fraction h = refl
+class-of-row Root h = refl
+class-of-row Odd h = refl
+class-of-row Even h = refl
+class-of-row NoFormula h = absurd (h refl)
+
 pub code-of-row : (k : Kind) → rowOf (codeFor k) .code ≡ codeFor k
 unfolding rowOf codeFor firstRow rows
 code-of-row k = eqb→eq _ _ (found (λ r. eqb (rowOf (r .code) .code) (r .code)) tt (λ r. ofClass FormulaRecord r && ofKind k r))
