@@ -14,14 +14,15 @@ void exit(int);
 
 enum { COUNTED = 200 };                                    /* calls of a row that are counted */
 enum { SLICE = 1000, TIMED = 50000000, PASSES = 10 };      /* calls of a slice, ns for a row in a pass, passes over all rows */
-enum { KINDS = 4, ROWS = 32, ROOM = VP_MOST_FORMULAS * VP_LONGEST_RECORD + VP_SHEET_ADDS };
+enum { POLYNOMIAL, RATIONAL, FRACTION, ROOT, ODD, EVEN, KINDS };
+enum { ROWS = 32, ROOM = VP_MOST_FORMULAS * VP_LONGEST_RECORD + VP_SHEET_ADDS };
 
 typedef struct { uint8_t bytes[ROOM]; size_t length; } sheet;
 
-/* A formula of the whole sheet: its fields, a sheet of it alone, and arguments of its interval. */
+/* A formula of the whole sheet, by its kind and number: its fields, a sheet of it alone, and arguments of its interval. */
 typedef struct {
-    const char *kind;
-    uint16_t number;
+    const char *name;
+    uint16_t kind, number;
     vp_fields fields;
     sheet alone;
     int32_t arguments[SLICE];
@@ -29,7 +30,12 @@ typedef struct {
 } formula;
 
 static sheet whole;
-static formula formulas[KINDS] = {{"polynomial", 12}, {"rational", 53}, {"fraction", 54}, {"root", 161}};
+static formula formulas[KINDS] = {
+    [POLYNOMIAL] = {"polynomial", VP_POLYNOMIAL, 93}, [RATIONAL] = {"rational", VP_RATIONAL, 53},
+    [FRACTION] = {"fraction", VP_FRACTION, 54}, [ROOT] = {"root", VP_ROOT, 161},
+    [ODD] = {"odd", VP_ODD, 14}, [EVEN] = {"even", VP_EVEN, 33},
+};
+static formula padded = {"polynomial, odd padded", VP_POLYNOMIAL, 14};     /* the odd one, with a nought before each coefficient */
 static uint8_t out[ROOM], kept[ROOM];      /* what a call writes to; what it was after plain C's */
 
 static void stop(const char *name, const char *why) {
@@ -120,16 +126,18 @@ static const char *joined(const char *first, const char *second) {
 #define ALONE(f) f->alone.bytes, f->alone.length, f->number
 
 static void rows(int timing) {
-    const formula *polynomial = &formulas[0], *fraction = &formulas[2], *f, *end = formulas + KINDS;
+    const formula *polynomial = &formulas[POLYNOMIAL], *fraction = &formulas[FRACTION], *f, *end = formulas + KINDS;
     ROW("reading 64 formulas", counted, count, WHOLE);
     ROW("writing 64 formulas", written, write_sheet, RUN, out, ROOM);
-    for (f = formulas; f < end; f++) ROW(joined(f->kind, ", sheet of 1"), worked, evaluate, ALONE(f), f->arguments[i]);
-    for (f = formulas; f < end; f++) ROW(joined(f->kind, ", sheet of 64"), worked, evaluate, WHOLE, f->number, f->arguments[i]);
+    for (f = formulas; f < end; f++) ROW(joined(f->name, ", sheet of 1"), worked, evaluate, ALONE(f), f->arguments[i]);
+    f = &padded;
+    ROW(f->name, worked, evaluate, ALONE(f), f->arguments[i]);
+    for (f = formulas; f < end; f++) ROW(joined(f->name, ", sheet of 64"), worked, evaluate, WHOLE, f->number, f->arguments[i]);
     ROW("double, polynomial", shown, evaluate_double, ALONE(polynomial), polynomial->doubles[i]);
     ROW("interval, polynomial", ends, interval, ALONE(polynomial));
     ROW("formula, polynomial", found, formula, ALONE(polynomial));
     ROW("formula, fraction", found, formula, ALONE(fraction));
-    for (f = formulas; f < end; f++) ROW(joined("record, ", f->kind), written, write_record, f->fields, out, ROOM);
+    for (f = formulas; f < end; f++) ROW(joined("record, ", f->name), written, write_record, f->fields, out, ROOM);
 }
 
 #define REFUSED(expected, shape, function, ...)                                                   \
@@ -157,6 +165,8 @@ static void refusals(void) {
     REFUSED(VP_ARGUMENT_OUTSIDE, shown, evaluate_double, WHOLE, f->number, 1e300);
     REFUSED(VP_NOT_FINITE, shown, evaluate_double, WHOLE, f->number, __builtin_inf());
     REFUSED(VP_WRONG_KIND, written, write_record, ((vp_fields){0}), out, ROOM);
+    REFUSED(VP_RANGE_LEFT, written, write_record, ((vp_fields){VP_EVEN, 1, 0, 2147483647, 1, 0, 0, {1}}), out, ROOM);
+    REFUSED(VP_RANGE_LEFT, written, write_record, ((vp_fields){VP_ODD, 1, 0, 16777217, 1, 0, 0, {2147483647}}), out, ROOM);
     REFUSED(VP_BUFFER_TOO_SHORT, written, write_record, f->fields, out, f->alone.length - VP_SHEET_ADDS - 1);
     REFUSED(VP_WRONG_COUNT, written, write_sheet, whole.bytes, 0, out, ROOM);
     REFUSED(VP_CUT_SHORT, written, write_sheet, RUN - 1, out, ROOM);
@@ -171,9 +181,22 @@ static uint64_t drawn(void) {
     return seed ^= seed << 17;
 }
 
+static void look_up(formula *f) {
+    f->fields = plain_formula(whole.bytes, whole.length, f->number).fields;
+    if (f->fields.kind != f->kind) stop(f->name, "the sheet's formula of its number is of another kind");
+}
+
+static void pad(const vp_fields *odd) {
+    vp_fields *f = &padded.fields;
+    if (odd->p != 6) stop(padded.name, "the odd formula has not six terms");
+    *f = *odd;
+    f->kind = padded.kind;
+    f->p = 2 * odd->p;
+    for (int k = 0; k < odd->p; k++) f->words[2 * k] = 0, f->words[2 * k + 1] = odd->words[k];
+}
+
 static void prepare(formula *f) {
     uint8_t record[VP_LONGEST_RECORD];
-    f->fields = plain_formula(whole.bytes, whole.length, f->number).fields;
     size_t length = plain_write_record(f->fields, record, sizeof record).length;
     f->alone.length = plain_write_sheet(record, length, f->alone.bytes, ROOM).length;
     for (int i = 0; i < SLICE; i++) {
@@ -187,7 +210,9 @@ int main(int count, char **words) {
     if (!file) stop("measure", "no sheet that can be read");
     whole.length = fread(whole.bytes, 1, ROOM, file);
     fclose(file);
-    for (int k = 0; k < KINDS; k++) prepare(&formulas[k]);
+    for (int k = 0; k < KINDS; k++) look_up(&formulas[k]), prepare(&formulas[k]);
+    pad(&formulas[ODD].fields);
+    prepare(&padded);
     refusals();
     if (count == 2) rows(0);
     else while (pass++ < PASSES) row = 0, rows(1);

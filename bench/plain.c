@@ -41,6 +41,14 @@ static inline uint64_t polynomial_bound(const uint8_t *c, uint32_t m, uint64_t a
     return b;
 }
 
+/* An odd or even polynomial, which is one in the square of its argument. */
+static inline uint32_t admit_square(const uint8_t *c, uint32_t m, uint64_t a, int odd) {
+    uint64_t second, s = bound_product(a, a);
+    if (s > MOST) return VP_RANGE_LEFT;
+    uint64_t b = polynomial_bound(c, m, s, &second);
+    return b > MOST || (odd && bound_product(b, a) > MOST) ? VP_RANGE_LEFT : 0;
+}
+
 static inline uint32_t admit_rational(const uint8_t *c, uint32_t p, uint32_t q, uint64_t a) {
     uint64_t second, top = polynomial_bound(c, p, a, &second);
     if (top > MOST) return VP_RANGE_LEFT;
@@ -79,7 +87,9 @@ static inline int words(const uint8_t *p, uint32_t n) {
     return !bad;
 }
 
-/* A formula's values: lo, hi, and n coefficients; m and q count them, or m is the depth. */
+/* A formula's values: lo, hi, and n coefficients; m and q count them, or m is the depth. With six kinds clang has to be told to
+   inline it. */
+__attribute__((always_inline))
 static inline uint32_t check_values(uint32_t kind, int32_t lo, int32_t hi, const uint8_t *c, uint32_t m, uint32_t q, uint32_t mode, uint32_t n) {
     if (lo == INT32_MIN || hi == INT32_MIN || !words(c, n) || lo > hi || mode > 2 || (kind == VP_ROOT && lo < 0)) return VP_WRONG_VALUE;
     uint64_t a = size(lo) > size(hi) ? size(lo) : size(hi), second;
@@ -87,7 +97,7 @@ static inline uint32_t check_values(uint32_t kind, int32_t lo, int32_t hi, const
     case VP_POLYNOMIAL: return polynomial_bound(c, m, a, &second) > MOST ? VP_RANGE_LEFT : 0;
     case VP_RATIONAL: return admit_rational(c, m, q, a);
     case VP_FRACTION: return admit_fraction(c, mode, m, a);
-    default: return 0;
+    default: return kind == VP_ROOT ? 0 : admit_square(c, m, a, kind == VP_ODD);
     }
 }
 
@@ -96,7 +106,7 @@ static inline uint32_t check_record(const uint8_t *r, uint32_t length, uint32_t 
     uint32_t m = 0, q = 0, n = 0, mode = 0;
     const uint8_t *c = r + 16;
     switch (kind) {
-    case VP_POLYNOMIAL:
+    case VP_POLYNOMIAL: case VP_ODD: case VP_EVEN:
         if (length < 20 || length > 80 || length % 4) return VP_WRONG_LENGTH;
         n = m = (length - 16) / 4;
         break;
@@ -139,7 +149,7 @@ static inline verdict check_sheet(const uint8_t *sheet, size_t n, uint32_t asked
             if (length != 8) REFUSE(VP_WRONG_LENGTH);
             count = u16(r + 6);
             if (count < 1 || count > 64) REFUSE(VP_WRONG_COUNT);
-        } else if (kind >= VP_POLYNOMIAL && kind <= VP_ROOT) {
+        } else if (kind >= VP_POLYNOMIAL && kind <= VP_EVEN) {
             uint32_t refused = check_record(r, length, kind, seen, count, last);
             if (refused) REFUSE(refused);
             last = u16(r + 6);
@@ -162,6 +172,9 @@ static inline int32_t horner(const uint8_t *c, uint32_t n, int32_t x) {
     for (uint32_t i = n - 1; i-- > 0;) t = (int32_t)(i32(c + 4 * i) + product(t, x));
     return t;
 }
+
+static inline int32_t polynomial(const uint8_t *r, int32_t x) { return horner(r + 16, (u32(r) - 16) / 4, x); }
+static inline int32_t even(const uint8_t *r, int32_t x) { return polynomial(r, (int32_t)product(x, x)); }
 
 static inline int32_t rational(const uint8_t *r, int32_t x) {
     uint32_t p = u16(r + 16), q = u16(r + 18);
@@ -189,9 +202,11 @@ static inline int32_t heron(int32_t x) {
 
 static inline int32_t answer(const uint8_t *r, int32_t x) {
     switch (u16(r + 4)) {
-    case VP_POLYNOMIAL: return horner(r + 16, (u32(r) - 16) / 4, x);
+    case VP_POLYNOMIAL: return polynomial(r, x);
     case VP_RATIONAL: return rational(r, x);
     case VP_FRACTION: return fraction(r, x);
+    case VP_ODD: return (int32_t)product(even(r, x), x);
+    case VP_EVEN: return even(r, x);
     default: return heron(x);
     }
 }
@@ -253,9 +268,9 @@ vp_found plain_formula(const uint8_t *sheet, size_t length, uint16_t number) {
     vp_fields *g = &f.fields;
     g->kind = u16(r + 4), g->number = u16(r + 6), g->lo = i32(r + 8), g->hi = i32(r + 12);
     uint32_t bytes = u32(r), head = 16;
-    if (g->kind == VP_POLYNOMIAL) g->p = (bytes - 16) / 4;
-    else if (g->kind == VP_RATIONAL) g->p = u16(r + 16), g->q = u16(r + 18), head = 20;
+    if (g->kind == VP_RATIONAL) g->p = u16(r + 16), g->q = u16(r + 18), head = 20;
     else if (g->kind == VP_FRACTION) g->mode = u16(r + 16), g->p = u16(r + 18), head = 20;
+    else g->p = (bytes - 16) / 4;
     memcpy(g->words, r + head, bytes - head);
     return f;
 }
@@ -263,7 +278,7 @@ vp_found plain_formula(const uint8_t *sheet, size_t length, uint16_t number) {
 vp_written plain_write_record(vp_fields f, uint8_t *out, size_t room) {
     uint32_t n = 0, m = 0, q = 0, mode = 0, head = 16;
     switch (f.kind) {
-    case VP_POLYNOMIAL:
+    case VP_POLYNOMIAL: case VP_ODD: case VP_EVEN:
         if (f.p < 1 || f.p > 16) return (vp_written){VP_WRONG_LENGTH, 0, 0};
         n = m = f.p;
         break;
@@ -306,7 +321,7 @@ vp_written plain_write_sheet(const uint8_t *run, size_t n, uint8_t *out, size_t 
         if (length < 8 || length > 120) REFUSE(VP_WRONG_LENGTH);
         if (n - at < length) REFUSE(VP_CUT_SHORT);
         uint32_t kind = u16(r + 4);
-        if (kind < VP_POLYNOMIAL || kind > VP_ROOT) REFUSE(VP_WRONG_KIND);
+        if (kind < VP_POLYNOMIAL || kind > VP_EVEN) REFUSE(VP_WRONG_KIND);
         uint32_t refused = check_record(r, length, kind, seen, 64, last);
         if (refused) REFUSE(refused);
         last = u16(r + 6), seen++, at += length;

@@ -5,11 +5,15 @@
 For each compiler of plain C the folder has COMPILER.counts, the rows' names and
 numbers of calls as bench/measure.c prints them, with COMPILER.insns, the counts
 of bench/insn.c; or COMPILER.times. The status is 1 where a ratio is above its
-bound.
+bound, or where our odd sine takes no fewer instructions than the same sine
+padded to a polynomial.
 """
 
 import sys
 from pathlib import Path
+
+# The rows of one sine: as an odd formula, and padded to a polynomial.
+ODD, PADDED = "odd, sheet of 1", "polynomial, odd padded"
 
 
 def counted(folder, compiler):
@@ -34,12 +38,23 @@ def bound(what, compiler, name):
         return 1.05 if name.startswith("reading") else None
     if name.startswith(("reading", "writing", "polynomial")):
         return {"clang": 1.00, "gcc": 1.05}[compiler]
+    if name.startswith(("odd", "even")):
+        return 1.10
     return {"clang": 1.15, "gcc": None}[compiler]
+
+
+def sine_above(odd, padded):
+    """Whether our odd sine takes no fewer instructions than the padded one."""
+    above = odd >= padded
+    print(f"\n{'ours':24}{'padded':>9}{'odd':>10}{'ratio':>8}{'below':>9}")
+    print(f"{'sine of six terms':24}{padded:9.1f}{odd:10.1f}{odd / padded:8.3f}"
+          f"{1:9.2f}{' above' if above else ''}")
+    return above
 
 
 def main(what, folder, *compilers):
     first = second = " " * 24
-    lines = {}
+    lines, every = {}, {}
     above = False
     for compiler in compilers:
         first += f"    {f'C by {compiler} -O3':38}"
@@ -51,11 +66,14 @@ def main(what, folder, *compilers):
             most = bound(what, compiler, name)
             mark = " above" if most and ratio > most else ""
             above = above or mark != ""
+            every[name] = ours
             lines.setdefault(name, f"{name:24}")
             lines[name] += f"{plain:9.1f}{ours:10.1f}{ratio:8.3f}"
             lines[name] += f"{f'{most:.2f}' if most else '':>9}{mark:6}"
     for line in first, second, *lines.values():
         print(line.rstrip())
+    if what == "counts":
+        above |= sine_above(every[ODD], every[PADDED])
     return 1 if above else 0
 
 

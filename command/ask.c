@@ -57,7 +57,7 @@ static void show_named(const question *q, const char *name, int index, int32_t w
 
 static void show_words(const question *q, const vp_fields *f) {
     const int32_t *word = f->words;
-    if (f->kind == VP_POLYNOMIAL) {
+    if (f->kind == VP_POLYNOMIAL || f->kind == VP_ODD || f->kind == VP_EVEN) {
         printf("coefficients %u\n", f->p);
         for (int i = 0; i < f->p; i++) show_named(q, "c", i, *word++);
     } else if (f->kind == VP_RATIONAL) {
@@ -79,6 +79,8 @@ static const char *kind_name(uint16_t kind) {
     case VP_POLYNOMIAL: return "polynomial";
     case VP_RATIONAL: return "rational";
     case VP_FRACTION: return "fraction";
+    case VP_ODD: return "odd";
+    case VP_EVEN: return "even";
     default: return "root";
     }
 }

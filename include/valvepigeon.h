@@ -28,8 +28,8 @@ extern "C" {
 /* The version: 10000 times the first number, 100 times the second, and the third. The first moves when programs have to be
    compiled anew (a struct or a function is not as it was), and the shared library's name moves with it; the second when something
    is added, as a kind or a refusal; the third when neither is so. */
-#define VP_VERSION 10000
-#define VP_VERSION_STRING "1.0.0"
+#define VP_VERSION 10100
+#define VP_VERSION_STRING "1.1.0"
 
 /* Sizes: the most bytes of a record, the bytes that a sheet adds to its run of records, and the most formulas of a sheet. */
 #define VP_LONGEST_RECORD 120
@@ -59,6 +59,8 @@ extern "C" {
 #define VP_RATIONAL 0x0011
 #define VP_FRACTION 0x0012
 #define VP_ROOT 0x0013
+#define VP_ODD 0x0014             /* a polynomial of odd powers alone */
+#define VP_EVEN 0x0015            /* a polynomial of even powers alone */
 
 /* A formula's fields. `lo` and `hi` are words, the ends of its interval. A field that the kind has not is 0 in an answer, and so
    is each word past the last; the record writer ignores them.
@@ -67,7 +69,12 @@ extern "C" {
    polynomial    coefficients, 1 to 16        -                     -       c0, c1, ..., lowest power first
    rational      numerator's, 1 to 12         divisor's, 1 to 12    -       the numerator's p, then the divisor's q
    fraction      depth, 1 to 12               -                     0..2    b0, a1, b1, a2, b2, ...: 2 p + 1 of them
-   root          -                            -                     -       none */
+   root          -                            -                     -       none
+   odd           coefficients, 1 to 16        -                     -       c0, c1, c2, ..., of x, x^3, x^5, ...
+   even          coefficients, 1 to 16        -                     -       c0, c1, c2, ..., of 1, x^2, x^4, ...
+
+   With s the product of the argument x with itself, an even formula's answer is that of the polynomial c0, c1, ... at s, and an
+   odd one's the product of that word and x. */
 typedef struct {
     uint16_t kind, number;
     int32_t lo, hi;

@@ -16,8 +16,8 @@ ROOT = Path(__file__).resolve().parent.parent
 sys.path.append(str(ROOT / "oracle"))
 
 from evaluation import evaluate
-from formulas import FRACTION, POLYNOMIAL, RATIONAL
-from listings import NAMES, polynomial, sheet
+from formulas import FRACTION, POLYNOMIALS, RATIONAL
+from listings import NAMES, ODD_AND_EVEN, polynomial, sheet
 from number import M, ONE
 from refusal import Refused
 from sheet import formula_of, read
@@ -52,7 +52,7 @@ def answered(content, number, text, as_words):
 def fields(formula, as_words):
     """What is printed of a formula that is asked nothing."""
     f = formula
-    if f.kind == POLYNOMIAL:
+    if f.kind in POLYNOMIALS:
         counts = [f"coefficients {f.p}"]
         names = [f"c{i}" for i in range(f.p)]
     elif f.kind == RATIONAL:
@@ -89,6 +89,19 @@ TYPED = [
 ] + ["0.0000000298023223876953124999999", "-0.0000000298023223876953124999999"]
 
 
+def about(f, path):
+    """Questions about a formula of a sheet: its ends, what lies beside them,
+    its middle and a half of each side; and its fields."""
+    middle = (f.lo + f.hi) // 2
+    asked = [f"{w}w" for w in (f.lo, f.hi, middle, f.lo // 2, f.hi // 2,
+                               f.lo - 1, f.hi + 1)]
+    asked.append(decimal(Fraction(f.hi, ONE)))
+    for as_words in (False, True):
+        name = f"{f.number}-{'words' if as_words else 'decimals'}"
+        yield name, path, f.number, asked, as_words
+        yield name + "-fields", path, f.number, [], as_words
+
+
 def cases(folder):
     itself = folder / "it self.sheet"
     itself.write_bytes(ITSELF)
@@ -97,16 +110,13 @@ def cases(folder):
     ready = ROOT / "sheets" / "all.sheet"
     seen = set()
     for f in read(ready.read_bytes()):
-        if (f.kind, f.mode) in seen:
-            continue
+        if (f.kind, f.mode) not in seen:
+            yield from about(f, ready)
         seen.add((f.kind, f.mode))
-        middle = (f.lo + f.hi) // 2
-        asked = [f"{w}w" for w in (f.lo, f.hi, middle, f.lo - 1, f.hi + 1)]
-        asked.append(decimal(Fraction(f.hi, ONE)))
-        for as_words in (False, True):
-            name = f"{f.number}-{'words' if as_words else 'decimals'}"
-            yield name, ready, f.number, asked, as_words
-            yield name + "-fields", ready, f.number, [], as_words
+    made = folder / "odd-and-even.sheet"
+    made.write_bytes(ODD_AND_EVEN)
+    for f in read(ODD_AND_EVEN):
+        yield from about(f, made)
 
 
 def main():

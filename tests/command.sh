@@ -159,6 +159,9 @@ for input in "$room"/cases/*.in; do
     esac
     gives "$status" "$(cat "${input%.in}.out")"$'\n' "$text" list "$input"
 done
+gives 0 "$room/cases/odd-and-even.in: ok, 5 formulas
+1 checked: 1 ok, 0 refused, 0 too long, 0 unreadable
+" '' check "$room/cases/odd-and-even.in"
 python3 -B tests/asked.py "$room/cases" || fail 'tests/asked.py'
 for input in "$room"/cases/*.args; do
     mapfile -t words <"$input"

@@ -1,4 +1,5 @@
-/* The header's constants are what the library does: each refusal is met by its name, and each size by a sheet that has it.
+/* The header's constants are what the library does: each refusal is met by its name, each kind answers by its rule, and each size
+   is met by a sheet that has it.
    A line for each that is not so; the last line says how many are. */
 #include <stdio.h>
 #include <string.h>
@@ -51,6 +52,25 @@ static void questions(void) {
     hold("VP_NOT_FINITE", vp_evaluate_double(sheet, sizeof sheet, 1, __builtin_inf()).refused, VP_NOT_FINITE);
 }
 
+/* What a formula with the words 1, 1 and 2 answers at one half, on 0 to one half. */
+static int32_t half(uint16_t kind, uint16_t p, uint16_t q) {
+    const int32_t one = 16777216;
+    vp_fields fields = {kind, 1, 0, one / 2, p, q, 0, {one, one, 2 * one}};
+    uint8_t record[VP_LONGEST_RECORD], sheet[VP_LONGEST_RECORD + VP_SHEET_ADDS];
+    size_t length = vp_write_record(fields, record, sizeof record).length;
+    length = vp_write_sheet(record, length, sheet, sizeof sheet).length;
+    return vp_evaluate(sheet, length, 1, one / 2).word;
+}
+
+static void kinds(void) {
+    hold("VP_POLYNOMIAL", half(VP_POLYNOMIAL, 2, 0), 25165824);       /* 1 + 1/2 */
+    hold("VP_RATIONAL", half(VP_RATIONAL, 2, 1), 12582912);           /* (1 + 1/2) / 2 */
+    hold("VP_FRACTION", half(VP_FRACTION, 1, 0), 20971520);           /* 1 + 1/2 / 2 */
+    hold("VP_ROOT", half(VP_ROOT, 0, 0), 11863283);                   /* 2^23.5 is 11863283.2 */
+    hold("VP_ODD", half(VP_ODD, 2, 0), 10485760);                     /* (1 + 1/4) / 2 */
+    hold("VP_EVEN", half(VP_EVEN, 3, 0), 23068672);                   /* 1 + 1/4 + 2/16 */
+}
+
 /* The fullest sheet: the longest records, as many as go in, and one more. */
 static void sizes(void) {
     static uint8_t run[(VP_MOST_FORMULAS + 1) * VP_LONGEST_RECORD], out[sizeof run + VP_SHEET_ADDS];
@@ -77,6 +97,7 @@ static void version(void) {
 int main(void) {
     sheets();
     questions();
+    kinds();
     sizes();
     version();
     printf("%d right, %d wrong\n", right, wrong);

@@ -15,14 +15,15 @@ from struct import pack
 ROOT = Path(__file__).resolve().parent.parent
 sys.path.append(str(ROOT / "oracle"))
 
-from formulas import FRACTION, POLYNOMIAL, RATIONAL, ROOT as SQUARE_ROOT
+from formulas import EVEN, FRACTION, ODD, POLYNOMIAL, RATIONAL
+from formulas import ROOT as SQUARE_ROOT
 from number import M, ONE
 from refusal import Refused
 from sheet import read
 
 MOST_BYTES = 8192
 NAMES = {POLYNOMIAL: "polynomial", RATIONAL: "rational",
-         FRACTION: "fraction", SQUARE_ROOT: "root"}
+         FRACTION: "fraction", SQUARE_ROOT: "root", ODD: "odd", EVEN: "even"}
 
 
 def listing(content):
@@ -54,8 +55,9 @@ def sheet(*records):
     return start(len(records)) + b"".join(records) + end(len(records))
 
 
-def polynomial(number, lo, hi, *words):
-    return record(POLYNOMIAL, number, lo, hi, pack(f"<{len(words)}i", *words))
+def polynomial(number, lo, hi, *words, kind=POLYNOMIAL):
+    """An odd or even one is laid out alike."""
+    return record(kind, number, lo, hi, pack(f"<{len(words)}i", *words))
 
 
 def root(number, lo, hi):
@@ -93,11 +95,32 @@ EXTREMES = sheet(
     polynomial(9, -1, 0, 1), polynomial(10, -10, 10, 0),
     root(65534, 0, 0), root(65535, 0, M))
 
+# Odd and even formulas at their limits. S is a word up to this end: its square
+# is not above 2^24 times M, that of the next is. M is the largest coefficient
+# of an odd formula on -1 to 1.
+WIDEST = 189812531
+SIXTEEN = [ONE // n for n in range(1, 17)]
+ODD_AND_EVEN = sheet(
+    polynomial(3, -WIDEST, WIDEST, 1, kind=ODD),
+    polynomial(4, -WIDEST, WIDEST, 1, kind=EVEN),
+    polynomial(5, -ONE, ONE, *SIXTEEN, kind=ODD),
+    polynomial(6, -ONE, ONE, *SIXTEEN, kind=EVEN),
+    polynomial(7, -ONE, ONE, M, kind=ODD))
+BEYOND = {
+    "odd-too-wide": sheet(polynomial(3, 0, WIDEST + 1, 1, kind=ODD)),
+    "even-too-wide": sheet(polynomial(4, 0, WIDEST + 1, 1, kind=EVEN)),
+    "odd-too-large": sheet(polynomial(7, 0, ONE + 1, M, kind=ODD)),
+}
+
 
 def cases():
     for number, content in REFUSED.items():
         assert listing(content).startswith(f"refused {number} at "), number
         yield f"refused-{number}", content
+    for name, content in BEYOND.items():
+        assert listing(content) == "refused 7 at 8\n", name
+        yield name, content
+    yield "odd-and-even", ODD_AND_EVEN
     yield "extremes", EXTREMES
     full = sheet(*(root(n, 0, n) for n in range(64)))
     yield "sixty-four", full

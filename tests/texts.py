@@ -14,7 +14,7 @@ ROOT = Path(__file__).resolve().parent.parent
 sys.path.insert(0, str(ROOT / "sheets"))
 
 import make
-from listings import fraction, polynomial, rational, root, sheet
+from listings import EVEN, ODD, fraction, polynomial, rational, root, sheet
 from ready import Tally
 from sheet import read
 
@@ -46,6 +46,18 @@ sheet: other
 number: 10
 kind: root
 interval: [0, 2]
+
+sheet: other
+number: 11
+kind: odd
+interval: [-1, 1]
+coefficients: 1, -1/6
+
+sheet: other
+number: 12
+kind: even
+interval: [-1, 1]
+coefficients: 1, -0.5, 0.041 666 67
 """
 
 GONE = None  # for a line that is taken away
@@ -87,6 +99,8 @@ FAULTS = [
     (14, "coefficients: 0, 1, 1, -1", 14, "numbers here: 4"),
     (14, "coefficients: 0", 14, "numbers here: 1"),
     (14, "coefficients: 0" + ", 1" * 26, 14, "numbers here: 27"),
+    (33, "coefficients: 1" + ", 0" * 16, 33, "numbers here: 17"),
+    (39, "coefficients: 1" + ", 0" * 16, 39, "numbers here: 17"),
     # Names.
     (3, "nummer: 7", 3, "unknown name 'nummer'"),
     (3, "Number: 7", 3, "unknown name 'Number'"),
@@ -105,9 +119,13 @@ FAULTS = [
     (11, GONE, 9, "missing: kind"),
     (14, GONE, 9, "missing: coefficients"),
     (20, GONE, 16, "missing: numerator"),
+    (33, GONE, 29, "missing: coefficients"),
+    (39, GONE, 35, "missing: coefficients"),
     (12, GONE, 9, "missing: mode"),
     (4, "kind: polynomial\nmode: 0", 5, "a polynomial has no mode"),
     (26, "kind: root\nmode: 0", 27, "a root has no mode"),
+    (31, "kind: odd\nmode: 0", 32, "an odd formula has no mode"),
+    (37, "kind: even\nmode: 0", 38, "an even formula has no mode"),
     (26, "kind: root\ncoefficients: 1", 27, "a root has no coefficients"),
     (21, "divisor: 1\ncoefficients: 1", 22, "a rational has no coefficients"),
     (3, "number:", 3, "nothing stands after number"),
@@ -182,6 +200,9 @@ interval: {interval}
 #
 # 64x: the bound is 64 A steps, at most 2^31 - 1, so A is 2^25 - 1 steps, which
 # is 1.99999994039...; rounded up to eight places it becomes A again if typed.
+# As an odd formula it is the same. 64x^2 as an even one: S is 2^25 - 1 steps at
+# most, so A squared 2^49 - 2^24, and A 23726566 steps, which is 1.4142135381...
+# 1 as an even one: S is 2^31 - 1 at most, so A 189812531, 11.31370848...
 # 1/(1 - x): L is 2^24 - A, and 2^48 / L rounded up is at most 2^31 - 1 if L is
 # 131073 or more, so A is 16646143 steps, which is 0.99218744039...
 # 5 + 7/0 and 1/(0 + x): L is 0 however small A is. 1 / one step is no word.
@@ -196,6 +217,13 @@ REFUSED = [
      "of the one that was typed, [-1.99999995, 0.5]"),
     ("polynomial", ["coefficients: 0, 64"], "[3, 4]", "refused 7, ",
      f"inside {WIDE} is admitted; of the one that was typed, nothing"),
+    ("odd", ["coefficients: 64"], "[0, 4]", "refused 7, ",
+     f"inside {WIDE} is admitted; of the one that was typed, "
+     "[0, 1.99999995]"),
+    ("even", ["coefficients: 0, 64"], "[-4, 4]", "refused 7, ",
+     "inside [-1.41421354, 1.41421354] is admitted"),
+    ("even", ["coefficients: 1"], "[0, 12]", "refused 7, ",
+     "inside [-11.31370849, 11.31370849] is admitted"),
     ("rational", ["numerator: 1", "divisor: 1, -1"], "[-1, 1]", "refused 8, ",
      "inside [-0.99218745, 0.99218745] is admitted"),
     ("rational", ["numerator: 1", "divisor: 0, 1"], "[1, 2]", "refused 8, ",
@@ -302,6 +330,9 @@ def check_refusals(tally):
                    made.says([(4, refused)]) and words in made.told[0])
     for kind, parts, typed, steps in [
             ("polynomial", ["coefficients: 0, 64"], WIDE, 33554431),
+            ("odd", ["coefficients: 64"], WIDE, 33554431),
+            ("even", ["coefficients: 0, 64"], "[-1.41421354, 1.41421354]",
+             23726566),
             ("rational", ["numerator: 1", "divisor: 1, -1"],
              "[-0.99218745, 0.99218745]", 16646143)]:
         made = Made(one_formula(kind, parts, typed))
@@ -321,6 +352,8 @@ def expected_files():
         rational(9, -one, one, [12 * one, 6 * one, one],
                  [12 * one, -6 * one, one]),
         root(10, 0, 2 * one),
+        polynomial(11, -one, one, one, -2796203, kind=ODD),
+        polynomial(12, -one, one, one, -one // 2, 699051, kind=EVEN),
     ]
     return {"desk.sheet": sheet(*records[:2]),
             "other.sheet": sheet(*records[2:]), "all.sheet": sheet(*records)}
@@ -335,7 +368,7 @@ def check_good(tally):
         tally.hold(f"the good text: {made.told}", made.status == 0
                    and not made.told and made.files == expected and sums)
     for content in expected.values():
-        tally.hold("a sheet is read", len(read(content)) in (2, 4))
+        tally.hold("a sheet is read", len(read(content)) in (2, 4, 6))
     for interval, lo, hi in INTERVALS:
         made = Made(one_formula("polynomial", ["coefficients: 1"], interval))
         formula = read(made.files["one.sheet"])[0] if made.files else None

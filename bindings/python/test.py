@@ -24,6 +24,11 @@ RATIONAL = vp.Fields(vp.RATIONAL, 8, -ONE, ONE, p=3, q=3,
                      words=(12 * ONE, 6 * ONE, ONE, 12 * ONE, -6 * ONE, ONE))
 FRACTION = vp.Fields(vp.FRACTION, 9, -ONE, ONE, p=2, mode=2,
                      words=(0, ONE, ONE, -ONE, 3 * ONE))
+# x - x^3/6, and 1 - x^2/2 + x^4/24
+ODD = vp.Fields(vp.ODD, 10, -ONE, ONE, p=2, words=(ONE, -2796203))
+EVEN = vp.Fields(vp.EVEN, 11, -ONE, ONE, p=3,
+                 words=(ONE, -ONE // 2, 699051))
+EVERY_KIND = ROOT, POLYNOMIAL, RATIONAL, FRACTION, ODD, EVEN
 
 
 def load_tests(loader, tests, pattern):
@@ -97,16 +102,28 @@ class Writing(Case):
             vp.write_record(FRACTION),
             struct.pack("<IHHiiHH5i", 40, 0x12, 9, -ONE, ONE, 2, 2,
                         *FRACTION.words))
+        self.assertEqual(
+            vp.write_record(ODD),
+            struct.pack("<IHHii2i", 24, 0x14, 10, -ONE, ONE, *ODD.words))
+        self.assertEqual(
+            vp.write_record(EVEN),
+            struct.pack("<IHHii3i", 28, 0x15, 11, -ONE, ONE, *EVEN.words))
 
     def test_there_and_back(self):
-        formulas = (ROOT, POLYNOMIAL, RATIONAL, FRACTION)
-        sheet = vp.write_sheet(b"".join(map(vp.write_record, formulas)))
-        self.assertEqual(vp.count(sheet), 4)
-        for formula in formulas:
+        sheet = vp.write_sheet(b"".join(map(vp.write_record, EVERY_KIND)))
+        self.assertEqual(vp.count(sheet), 6)
+        for formula in EVERY_KIND:
             self.assertEqual(vp.formula(sheet, formula.number), formula)
         for number, argument, word in ((7, ONE // 2, 27262976),
                                        (8, ONE, 45538158), (8, -ONE, 6181080),
-                                       (9, ONE // 2, 9151209)):
+                                       (9, ONE // 2, 9151209),
+                                       # s is 1/4: 16777216 - 699051, halved,
+                                       # is a tie, which goes upward
+                                       (10, ONE // 2, 8039083),
+                                       (10, -ONE // 2, -8039082),
+                                       # -8388608 + 174763 by 4 is -2053461.25
+                                       (11, ONE // 2, 14723755),
+                                       (11, -ONE // 2, 14723755)):
             self.assertEqual(vp.evaluate(sheet, number, argument).word, word)
 
 
@@ -199,7 +216,7 @@ class Numbers(Case):
 
 class Words(Case):
     def test_too_few_or_too_many(self):
-        for formula in (ROOT, POLYNOMIAL, RATIONAL, FRACTION):
+        for formula in EVERY_KIND:
             for words in (formula.words + (0,), formula.words[1:] or (0, 0),
                           (0,) * 32):
                 self.raises(ValueError, vp.write_record,
@@ -221,6 +238,12 @@ class Words(Case):
                 POLYNOMIAL, kind=0xFFFF, words=(1,) * count))
         self.refuses(6, 0, vp.write_record, dataclasses.replace(
             POLYNOMIAL, p=1, words=(-2**31,)))
+        for formula in (ODD, EVEN):
+            self.refuses(2, 0, vp.write_record, dataclasses.replace(
+                formula, p=17, words=(1,) * 17))
+            # 12 times 12 is no word
+            self.refuses(7, 0, vp.write_record, dataclasses.replace(
+                formula, hi=12 * ONE, p=1, words=(1,)))
 
 
 class Refusals(Case):

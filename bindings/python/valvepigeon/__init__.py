@@ -43,8 +43,10 @@ from . import _library
 if TYPE_CHECKING:
     from _typeshed import ReadableBuffer
 
-# The kinds of formula records.
+# The kinds of formula records. An odd polynomial's words are the coefficients
+# of x, x^3, x^5, ..., an even one's those of 1, x^2, x^4, ...
 POLYNOMIAL, RATIONAL, FRACTION, ROOT = 0x0010, 0x0011, 0x0012, 0x0013
+ODD, EVEN = 0x0014, 0x0015
 
 # The longest record and what a sheet adds to its run, in bytes; a sheet's limit.
 LONGEST_RECORD, SHEET_ADDS, MOST_FORMULAS = 120, 16, 64
@@ -75,10 +77,10 @@ class Refused(Exception):
 class Fields:
     """A formula's fields; a field that the kind has not is 0.
 
-    p is the polynomial's count, the numerator's count or the depth, q the
-    divisor's count. `words` are the coefficients in stored order, as many as
-    the counts ask for: p of a polynomial, p + q of a rational, 2 p + 1 of a
-    fraction, none of a root.
+    p is the count of a polynomial, odd and even ones included, the numerator's
+    count or the depth, q the divisor's count. `words` are the coefficients in
+    stored order, as many as the counts ask for: p of a polynomial, p + q of a
+    rational, 2 p + 1 of a fraction, none of a root.
     """
 
     kind: int
@@ -142,8 +144,8 @@ def _double(value: float) -> float:
 
 def _asked_for(kind: int, p: int, q: int) -> Optional[int]:
     """How many words the counts ask for; None where the kind is no formula's."""
-    return {POLYNOMIAL: p, RATIONAL: p + q, FRACTION: 2 * p + 1,
-            ROOT: 0}.get(kind)
+    return {POLYNOMIAL: p, RATIONAL: p + q, FRACTION: 2 * p + 1, ROOT: 0,
+            ODD: p, EVEN: p}.get(kind)
 
 
 def _struct(fields: Fields) -> _library.FieldsStruct:

@@ -37,6 +37,10 @@ pub const RATIONAL: u16 = 0x0011;
 pub const FRACTION: u16 = 0x0012;
 /// The kind of a root's record.
 pub const ROOT: u16 = 0x0013;
+/// The kind of an odd polynomial's record, whose words are the coefficients of x, x^3, x^5, ...
+pub const ODD: u16 = 0x0014;
+/// The kind of an even polynomial's record, whose words are the coefficients of 1, x^2, x^4, ...
+pub const EVEN: u16 = 0x0015;
 
 /// No record is longer: a buffer of so many bytes is enough for any.
 pub const LONGEST_RECORD: usize = 120;

@@ -14,7 +14,7 @@ pub struct Fields {
     pub lo: i32,
     /// The high end of the interval, a word.
     pub hi: i32,
-    /// The polynomial's count, the numerator's count or the fraction's depth.
+    /// The count of a polynomial, odd and even ones included, the numerator's count or the fraction's depth.
     pub p: u16,
     /// The divisor's count.
     pub q: u16,

@@ -1,4 +1,4 @@
-//! Calls each function of the binding, on the paper's own sheet.
+//! Calls each function of the binding, on the paper's own sheet, and on an odd and an even formula.
 
 use valvepigeon::*;
 
@@ -57,6 +57,35 @@ fn writes_a_sheet() {
     assert_eq!(write_sheet(&[], &mut out), refused(4, 0));
     assert_eq!(write_sheet(&SHEET, &mut out), refused(3, 8));
     assert_eq!(write_sheet(&SHEET[8..24], &mut out[..31]), refused(12, 0));
+}
+
+const ONE: i32 = 16777216;
+
+/// A formula on -1 to 1 with these coefficients.
+fn series(kind: u16, number: u16, coefficients: &[i32]) -> Fields {
+    let mut f = Fields { kind, number, lo: -ONE, hi: ONE, p: coefficients.len() as u16, ..Fields::default() };
+    f.words[..coefficients.len()].copy_from_slice(coefficients);
+    f
+}
+
+#[test]
+fn odd_and_even() {
+    let (odd, even) = (series(ODD, 1, &[ONE, -2796203]), series(EVEN, 2, &[ONE, -ONE / 2, 699051]));
+    let mut run = [0; 2 * LONGEST_RECORD];
+    let first = write_record(&odd, &mut run).unwrap();
+    let length = first + write_record(&even, &mut run[first..]).unwrap();
+    assert_eq!((first, length, run[4], run[first + 4]), (24, 24 + 28, 0x14, 0x15));
+    let mut sheet = vec![0; length + SHEET_ADDS];
+    write_sheet(&run[..length], &mut sheet).unwrap();
+    assert_eq!((formula(&sheet, 1), formula(&sheet, 2)), (Ok(odd), Ok(even)));
+    // x - x^3/6, where the last product is a tie, and 1 - x^2/2 + x^4/24
+    for (number, argument, word) in [(1, ONE / 2, 8039083), (1, -ONE / 2, -8039082), (2, ONE / 2, 14723755), (2, -ONE / 2, 14723755)] {
+        assert_eq!(evaluate(&sheet, number, argument).unwrap().word, word);
+    }
+    // 12 times 12 is no word
+    for kind in [ODD, EVEN] {
+        assert_eq!(write_record(&Fields { hi: 12 * ONE, ..series(kind, 1, &[1]) }, &mut run), refused(7, 0));
+    }
 }
 
 #[test]
