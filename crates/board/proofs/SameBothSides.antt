@@ -1,6 +1,5 @@
 -- Promise: an even formula of an accepted sheet answers at -x exactly as at x, where both lie in its interval.
 use Rattle.whole.proofs.Basics.{_≡_, _∙_, sym, ap, List, ℕ, ℤ, negℤ, _≤ℤ_}
-use Rattle.formula.specs.declared.Formula.{Formula}
 use Rattle.formula.specs.declared.Kind.the-variants.{Even}
 use Rattle.formula.proofs.SameBothSides.{same-both-sides}
 use Rattle.layout.specs.Fields.{wordsIn}

@@ -1,7 +1,7 @@
 -- Demand 3: the distance of an accepted sheet's answers, at every argument in the formula's interval, said over whole numbers for n + 1 coefficients.
 -- A polynomial answers within half of 1 + |x| + .. + |x|^(n-1) steps of the exact value; an even formula the same, of the polynomial's exact value at the
 -- rounded square and with the square for x; an odd one within |x| times that, plus one half, of x times that exact value.
-use Rattle.whole.proofs.Basics.{_≡_, _∙_, sym, ap, subst, List, ℕ, suc, _*_, _^_, _≤_, take, ℤ, pos, natAbs, _-ℤ_, _*ℤ_, _≤ℤ_}
+use Rattle.whole.proofs.Basics.{_≡_, _∙_, ap, subst, List, ℕ, suc, _*_, _^_, _≤_, take, ℤ, pos, natAbs, _-ℤ_, _*ℤ_, _≤ℤ_}
 use Rattle.polynomial.specs.Distance.{exactSum, spreadSum}
 use Rattle.odd_even.specs.OddEven.{squareOf}
 use Rattle.odd_even.specs.Distance.{oddExactSum, oddSpreadSum}

@@ -1,14 +1,14 @@
 -- Demand 3, the distance, for a sound formula of n + 1 coefficients. Of a polynomial: twice the answer's distance from the exact value, both times 2^(s·n), is
 -- at most the sum of |x|^j·2^(s(n-j)) over j below n. Of an even one the same with the rounded square for x. Of an odd one, times 2^(s(n+1)): at most |x| times
 -- that sum, and 2^(s(n+1)), which is the half.
-use Rattle.whole.proofs.Basics.{_≡_, List, ℕ, suc, _*_, _^_, _≤_, length, take, ℤ, pos, natAbs, _-ℤ_, _*ℤ_}
+use Rattle.whole.proofs.Basics.{List, ℕ, suc, _*_, _^_, _≤_, take, ℤ, pos, natAbs, _-ℤ_, _*ℤ_}
 use lib.Seq.{length-take-le}
 use Rattle.polynomial.specs.Distance.{exactSum, spreadSum}
 use Rattle.polynomial.proofs.Distance.{distance-written-out}
 use Rattle.odd_even.specs.OddEven.{squareOf}
 use Rattle.odd_even.specs.Distance.{oddExactSum, oddSpreadSum}
 use Rattle.odd_even.proofs.Distance as odd-even
-use Rattle.formula.specs.Formula.{answerOf, wordCount, Sound}
+use Rattle.formula.specs.Formula.{answerOf, Sound}
 use Rattle.formula.specs.declared.Kind.{Kind}
 use Rattle.formula.specs.declared.Kind.the-variants.{Polynomial, Odd, Even}
 use Rattle.formula.specs.declared.Shape.{Shape}

@@ -3,7 +3,8 @@ use mathlib.Core.Path.{_≡_, refl}
 use mathlib.Core.Bool.{cond}
 use mathlib.Core.List.{List, [], _∷_}
 use Prim.Native.Nat.{ℕ, _+_, _≤_}
-use lib.Dec.{ltb}
+use native.Mathlib.Omega.{arith}
+use lib.Dec.{ltb, lit≤}
 use lib.IntN.{ℤ, pos, negsuc, natAbs}
 use lib.Signed.{_≤ℤ_}
 use lib.ListN.{length, take, drop}
@@ -177,3 +178,10 @@ odd-and-even :
     × (admissionBy Even 24 33554432 1 0 0 (pos 1073741824 ∷ []) ≡ Admitted)
 unfolding horner polynomialNumbers boundOf rounded roundedUp
 odd-and-even = (refl, refl, refl, refl, refl, refl)
+
+-- 1 to 16 coefficients of each
+sixteen : Counted Odd 1 0 0 × Counted Odd 16 0 0 × Counted Even 1 0 0 × Counted Even 16 0 0
+sixteen = ((lit≤ tt, lit≤ tt), (lit≤ tt, lit≤ tt), (lit≤ tt, lit≤ tt), (lit≤ tt, lit≤ tt))
+
+none-of-seventeen : (Counted Odd 0 0 0 → ⊥) × (Counted Odd 17 0 0 → ⊥) × (Counted Even 0 0 0 → ⊥) × (Counted Even 17 0 0 → ⊥)
+none-of-seventeen = (λ h. omega (arith, h), λ h. omega (arith, h), λ h. omega (arith, h), λ h. omega (arith, h))

@@ -1,5 +1,4 @@
 // One line of a listing, put into a buffer: a formula's, the count's or a refusal's.
-ghost use mathlib.Core.Path.{_≡_};
 ghost use Prim.Native.Nat.{_+_, _≤_};
 ghost use lib.ListN.{length};
 ghost use Rattle.layout.specs.Fields.{rowFor, formulaOf};

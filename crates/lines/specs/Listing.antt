@@ -5,9 +5,11 @@ use mathlib.Core.List.{List, [], _∷_, _++_}
 use mathlib.Core.Bool.{Bool, true, false, cond}
 use lib.Dec.{ltb}
 use lib.ListN.{length, take, replicate}
+use Rattle.word.specs.Rounded.{roundedUp}
 use Rattle.word.specs.Words.{unit}
 use Rattle.stored.specs.Numbers.{number2, number4}
 use Rattle.stored.specs.Words.{words}
+use Rattle.polynomial.specs.Polynomial.{boundOf}
 use Rattle.table.specs.Table.{rows, firstRow, rowOf, piecesBy}
 use Rattle.layout.specs.Fields.{bytesAt, firstCount, fieldOf, shapeOf, formulaOf}
 use Rattle.faults.specs.Faults.{frameFault, outside, countFault, sizeFault, lengthFault, startFault, scaleFault, orderFault, endFault, ownFault, intervalFault, wordsFault}
@@ -71,3 +73,16 @@ paper-listings :
     × (listing [] ≡ text "refused 1 at 0\n")
 unfolding listing countLine refusalLine linesFrom lineOf digitsBy decimal formulaCount walkOf walkFrom faultAt foundBy ending frameFault bytesAt recordFault lengthFault sizeFault countFault outside startFault scaleFault orderFault endFault valueFault ownFault intervalFault wordsFault number2 number4 words rows firstRow rowOf firstCount fieldOf shapeOf piecesBy formulaOf
 paper-listings = (refl, refl, refl, refl, refl)
+
+-- an odd formula and an even one, one step each, from -1 step to 1
+abbrev squaredSheet : List ℕ
+squaredSheet =
+    8 ∷ 0 ∷ 0 ∷ 0 ∷ 1 ∷ 0 ∷ 2 ∷ 0
+    ∷ 20 ∷ 0 ∷ 0 ∷ 0 ∷ 0x14 ∷ 0 ∷ 1 ∷ 0 ∷ 0xff ∷ 0xff ∷ 0xff ∷ 0xff ∷ 1 ∷ 0 ∷ 0 ∷ 0 ∷ 1 ∷ 0 ∷ 0 ∷ 0
+    ∷ 20 ∷ 0 ∷ 0 ∷ 0 ∷ 0x15 ∷ 0 ∷ 2 ∷ 0 ∷ 0xff ∷ 0xff ∷ 0xff ∷ 0xff ∷ 1 ∷ 0 ∷ 0 ∷ 0 ∷ 1 ∷ 0 ∷ 0 ∷ 0
+    ∷ 8 ∷ 0 ∷ 0 ∷ 0 ∷ 0xff ∷ 0xff ∷ 2 ∷ 0
+    ∷ []
+
+odd-and-even-listed : listing squaredSheet ≡ text "formulas 2\n1 odd -1 1\n2 even -1 1\n"
+unfolding boundOf roundedUp listing countLine refusalLine linesFrom lineOf digitsBy decimal formulaCount walkOf walkFrom faultAt foundBy ending frameFault bytesAt recordFault lengthFault sizeFault countFault outside startFault scaleFault orderFault endFault valueFault ownFault intervalFault wordsFault number2 number4 words rows firstRow rowOf firstCount fieldOf shapeOf piecesBy formulaOf
+odd-and-even-listed = refl

@@ -1,7 +1,6 @@
 -- What `squareBound` says: where it is `Within b`, S is in range and b is the polynomial's B_0 with S in place of A.
-use Rattle.whole.proofs.Basics.{_≡_, refl, ap, ap₂, Bool, true, false, cond, List, ℕ, _≤_, _<_, ltb, ℤ, ltb-false, lt-ltb, le-ltb, sym, _∙_}
+use Rattle.whole.proofs.Basics.{_≡_, refl, Bool, true, false, cond, List, ℕ, _≤_, _<_, ltb, ℤ, ltb-false, lt-ltb, le-ltb}
 use Rattle.word.specs.Words.{largest, boundProduct}
-use Rattle.polynomial.specs.declared.Bounding.{Bounding}
 use Rattle.polynomial.specs.declared.Bounding.the-variants.{Within, Beyond}
 use Rattle.polynomial.specs.Polynomial.{boundOf}
 use Rattle.polynomial.proofs.BoundLaws.{beyond-not}

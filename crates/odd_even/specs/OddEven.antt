@@ -83,7 +83,7 @@ bend-numbers :
 unfolding horner polynomialNumbers rounded
 bend-numbers = (refl, refl)
 
--- S itself, though one coefficient never uses it: the largest A whose S is a word, and the next
+-- S itself, though one coefficient never uses it: the largest A whose S is a word, and the next. S is M for no A; at 17 places the next is M + 1
 abbrev even-number : ℕ → List ℤ → ℕ
 even-number A ws = admissionNumber (evenAdmission 24 A ws)
 
@@ -95,10 +95,13 @@ square-at-the-limit :
     × (odd-number 189812531 (pos 0 ∷ []) ≡ 0)
     × (even-number 189812532 (pos 0 ∷ []) ≡ 7)
     × (odd-number 189812532 (pos 0 ∷ []) ≡ 7)
+    × (admissionNumber (evenAdmission 17 16777215 (pos 0 ∷ [])) ≡ 0)
+    × (admissionNumber (evenAdmission 17 16777216 (pos 0 ∷ [])) ≡ 7)
 unfolding boundOf roundedUp
-square-at-the-limit = (refl, refl, refl, refl)
+square-at-the-limit = (refl, refl, refl, refl, refl, refl)
 
--- S in place of A: up to a half, c0 + s is at most c0 and a quarter, which may be M and no more; up to two it is c0 and four
+-- S in place of A: up to a half, c0 + s is at most c0 and a quarter, which may be M and no more; up to two it is c0 and four. Up to one step S is
+-- rounded up to a step
 bounds-at-the-square :
     (even-number 8388608 (pos 2143289343 ∷ pos 16777216 ∷ []) ≡ 0)
     × (even-number 8388608 (pos 2143289344 ∷ pos 16777216 ∷ []) ≡ 7)
@@ -106,13 +109,21 @@ bounds-at-the-square :
     × (odd-number 8388608 (pos 2143289344 ∷ pos 16777216 ∷ []) ≡ 7)
     × (even-number 33554432 (pos 2080374783 ∷ pos 16777216 ∷ []) ≡ 0)
     × (even-number 33554432 (pos 2080374784 ∷ pos 16777216 ∷ []) ≡ 7)
+    × (even-number 1 (pos 2147483646 ∷ pos 16777216 ∷ []) ≡ 0)
+    × (even-number 1 (pos 2147483647 ∷ pos 16777216 ∷ []) ≡ 7)
 unfolding boundOf roundedUp
-bounds-at-the-square = (refl, refl, refl, refl, refl, refl)
+bounds-at-the-square = (refl, refl, refl, refl, refl, refl, refl, refl)
 
--- the last product of odd: up to two, twice c0 is M at most; even forms no such product
+-- the last product of odd, up to one and up to two: B_0, and twice B_0, are M at most, where B_0 is c0, or four times c1. It is rounded up: nine
+-- eighths of 1908874353 are M and an eighth. Even forms no such product
 last-product :
-    (odd-number 33554432 (pos 1073741823 ∷ []) ≡ 0)
+    (odd-number 16777216 (pos 2147483647 ∷ []) ≡ 0)
+    × (odd-number 33554432 (pos 1073741823 ∷ []) ≡ 0)
     × (odd-number 33554432 (pos 1073741824 ∷ []) ≡ 7)
+    × (odd-number 33554432 (pos 0 ∷ pos 268435455 ∷ []) ≡ 0)
+    × (odd-number 33554432 (pos 0 ∷ pos 268435456 ∷ []) ≡ 7)
+    × (odd-number 18874368 (pos 1908874352 ∷ []) ≡ 0)
+    × (odd-number 18874368 (pos 1908874353 ∷ []) ≡ 7)
     × (even-number 33554432 (pos 1073741824 ∷ []) ≡ 0)
 unfolding boundOf roundedUp
-last-product = (refl, refl, refl)
+last-product = (refl, refl, refl, refl, refl, refl, refl, refl)

@@ -8,7 +8,7 @@ use Rattle.table.specs.declared.Row.{Row}
 use Rattle.table.specs.Table.{rowOf, lengthBy}
 use Rattle.table.specs.Codes.{codeFor}
 use Rattle.layout.specs.Fields.{wordsIn}
-use Rattle.putting.specs.Plain.{Handed, plainShape, plainBy, rowBy, plain}
+use Rattle.putting.specs.Plain.{Handed, plainBy, rowBy, plain}
 use Rattle.putting.specs.Bytes.{Ready}
 use Rattle.putting.proofs.RecordLaws.{length-record}
 use Rattle.putting.proofs.RecordBack.{Tidy}

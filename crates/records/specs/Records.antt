@@ -102,3 +102,19 @@ range-first :
     × (formulaFault 24 (rowOf 0x0011) (recorded 32 0x0011 5 0 16777216 (bytes2 2 ++ (bytes2 1 ++ (bytes4 2147483647 ++ (bytes4 2147483647 ++ bytes4 0))))) 0 1 5 ≡ 7)
 unfolding bytes2 bytes4 number2 number4 words rows firstRow rowOf firstCount fieldOf shapeOf piecesBy outside countFault sizeFault lengthFault orderFault intervalFault ownFault wordsFault bound boundOf roundedUp valueFault formulaFault
 range-first = (refl, refl)
+
+-- odd and even, up to twelve, whose square is no word (7): 2 comes before for one byte too many, 6 for a coefficient that is no word. Up to two an
+-- odd one leaves the range by its last product, which an even one has not
+abbrev squared : ℕ → ℕ → ℕ → List ℕ
+squared code hi c = recorded 20 code 5 0 hi (bytes4 c)
+
+odd-and-even-records :
+    (formulaFault 24 (rowOf 0x0014) (squared 0x0014 201326592 1) 0 1 5 ≡ 7)
+    × (formulaFault 24 (rowOf 0x0015) (squared 0x0015 201326592 1) 0 1 5 ≡ 7)
+    × (formulaFault 24 (rowOf 0x0015) (recorded 21 0x0015 5 0 201326592 (bytes4 1 ++ (0 ∷ []))) 0 1 5 ≡ 2)
+    × (formulaFault 24 (rowOf 0x0015) (squared 0x0015 201326592 2147483648) 0 1 5 ≡ 6)
+    × (formulaFault 24 (rowOf 0x0014) (squared 0x0014 33554432 1073741823) 0 1 5 ≡ 0)
+    × (formulaFault 24 (rowOf 0x0014) (squared 0x0014 33554432 1073741824) 0 1 5 ≡ 7)
+    × (formulaFault 24 (rowOf 0x0015) (squared 0x0015 33554432 1073741824) 0 1 5 ≡ 0)
+unfolding bytes2 bytes4 number2 number4 words rows firstRow rowOf firstCount fieldOf shapeOf piecesBy outside countFault sizeFault lengthFault orderFault intervalFault ownFault wordsFault boundOf roundedUp valueFault formulaFault
+odd-and-even-records = (refl, refl, refl, refl, refl, refl, refl)

@@ -5,7 +5,7 @@ use Rattle.root.specs.Root.{Rootable}
 use Rattle.stored.specs.Words.{words, Stretch}
 use Rattle.stored.proofs.WordsLaws.{words-all, words-take, words-drop}
 use Rattle.polynomial.specs.Polynomial.{horner, PolynomialReady}
-use Rattle.odd_even.specs.OddEven.{evenOf, oddOf, EvenReady, OddReady}
+use Rattle.odd_even.specs.OddEven.{evenOf, oddOf}
 use Rattle.rational.specs.Rational.{rationalOf, RationalReady}
 use Rattle.fraction.specs.Ready.{FractionReady}
 use Rattle.formula.specs.Formula.{answerBy, answerOf, wordCount, storedWords}

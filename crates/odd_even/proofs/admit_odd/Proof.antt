@@ -1,9 +1,9 @@
 -- `odd_even::admit_odd` meets its contract: the two answers of `square_bound`, and within range the last product's bound.
 use Rattle.whole.proofs.Basics.{_≡_, _∙_, sym, ap, List, ℕ, _≤_, arith, ℤ, needs}
-use Rattle.word.specs.Words.{largest, boundProduct}
+use Rattle.word.specs.Words.{boundProduct}
 use Rattle.stored.specs.Words.{words}
 use Rattle.admission.specs.Admission.{ranged}
-use Rattle.admission.specs.declared.Admission.the-variants.{Admitted, RangeLeft}
+use Rattle.admission.specs.declared.Admission.the-variants.{Admitted}
 use Rattle.admission.proofs.AdmissionLaws.{ranged-yes, ranged-no}
 use Rattle.polynomial.specs.Polynomial.{whenWithin}
 use Rattle.polynomial.specs.declared.Bounding.{Bounding}

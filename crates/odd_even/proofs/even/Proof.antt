@@ -1,5 +1,5 @@
 -- `odd_even::even` meets its contract: the square is a word, and the polynomial is ready at it.
-use Rattle.whole.proofs.Basics.{_≡_, _∙_, arith, w32, w64, needs}
+use Rattle.whole.proofs.Basics.{_≡_, _∙_, arith, w32, w64}
 use Rattle.whole.proofs.Fit.{fit-abs}
 use Rattle.whole.proofs.Held.{back, Held, fits-code, held, arg, known, cast, given}
 use Rattle.odd_even.specs.OddEven.{squareOf}

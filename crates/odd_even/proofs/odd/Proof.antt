@@ -1,5 +1,5 @@
 -- `odd_even::odd` meets its contract: the even answer and the last product are words.
-use Rattle.whole.proofs.Basics.{_≡_, _∙_, List, ℕ, arith, ℤ, w32, w64, needs}
+use Rattle.whole.proofs.Basics.{_≡_, List, ℕ, arith, ℤ, w32, w64}
 use Rattle.whole.proofs.Fit.{fit-abs}
 use Rattle.whole.proofs.Held.{back, Held, fits-code, held, arg, known, cast}
 use Rattle.word.specs.Words.{Word}

@@ -5,7 +5,6 @@ use lib.Seq.{sets, length-sets, length-take-le}
 use Rattle.formula.specs.declared.Formula.{Formula}
 use Rattle.table.specs.declared.Class.the-variants.{FormulaRecord}
 use Rattle.table.specs.Table.{rows, firstRow, rowOf}
-use Rattle.table.specs.Codes.{codeFor}
 use Rattle.table.proofs.CodeLaws.{class-of-row}
 use Rattle.putting.specs.Plain.{Handed, rowBy, plain}
 use Rattle.faults.proofs.Chain.{halts, goes}
