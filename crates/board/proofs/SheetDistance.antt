@@ -28,12 +28,12 @@ module _ (s : ℕ) (bytes : List ℕ) (k : ℕ) (given : HasFormula s bytes k) (
   abbrev answer : ℤ
   answer = evaluationWord (evaluated s bytes k x)
 
-  -- by the shape that it has
-  sound : (h : Shape) → f .shape ≡ h → Sound h (f .lo) (f .hi) (wordsIn f)
-  sound h e = subst (λ (i : Shape). Sound i (f .lo) (f .hi) (wordsIn f)) e (given-fits s bytes k given .0 .sound)
+  -- for the shape that the formula is known to have
+  sound : (shape : Shape) → f .shape ≡ shape → Sound shape (f .lo) (f .hi) (wordsIn f)
+  sound shape e = subst (λ (i : Shape). Sound i (f .lo) (f .hi) (wordsIn f)) e (given-fits s bytes k given .0 .sound)
 
-  answer-is : (h : Shape) → f .shape ≡ h → answer ≡ answerOf s h (wordsIn f) x
-  answer-is i e = ap evaluationWord (answers-inside s bytes k given x l h) ∙ ap (λ (j : Shape). answerOf s j (wordsIn f) x) e
+  answer-is : (shape : Shape) → f .shape ≡ shape → answer ≡ answerOf s shape (wordsIn f) x
+  answer-is shape e = ap evaluationWord (answers-inside s bytes k given x l h) ∙ ap (λ (j : Shape). answerOf s j (wordsIn f) x) e
 
   pub sheet-distance : f .shape ≡ ofDegree Polynomial n q mode → 2 * natAbs (answer *ℤ pos (2 ^ (s * n)) -ℤ exactSum s terms n x) ≤ spreadSum s n x
   sheet-distance e = rw (answer-is _ e) (polynomial-distance s n q mode (f .lo) (f .hi) (wordsIn f) x (sound _ e))

@@ -1,8 +1,8 @@
 // What C is given, by value: include/valvepigeon.h declares the same structs. `refused` is 0 or the paper's number; in a
 // refusal every field past `place` is 0.
 
-// A formula's fields, in and out. `kind` is the code of the record's kind; p is the polynomial's count, the numerator's
-// count or the depth, q the divisor's count; `words` are the coefficients in stored order.
+// A formula's fields, in and out. `kind` is the code of the record's kind; p is the count of a polynomial, odd and even ones
+// included, the numerator's count or the depth, q the divisor's count; `words` are the coefficients in stored order.
 #[repr(C)]
 pub struct Fields {
     pub kind: u16,

@@ -165,9 +165,10 @@ own-divisors :
 unfolding horner outwardDivisors rounded
 own-divisors = (refl, refl)
 
--- odd and even are not each other: 1 - s/2 at a half, with s of 1/4, and c0 up to two, where odd's last product is M at most
+-- odd and even are not each other: 1 - q/2 for the square q, at a half, with a word past the last; and c0 of 64 up to two, where odd's last product is
+-- one above M, and even has none
 abbrev bend : List ℤ
-bend = pos 16777216 ∷ negsuc 8388607 ∷ []
+bend = pos 16777216 ∷ negsuc 8388607 ∷ pos 16777216 ∷ []
 
 odd-and-even :
     (answerBy Odd 24 2 0 0 bend (pos 8388608) ≡ pos 7340032)
@@ -179,9 +180,26 @@ odd-and-even :
 unfolding horner polynomialNumbers boundOf rounded roundedUp
 odd-and-even = (refl, refl, refl, refl, refl, refl)
 
--- 1 to 16 coefficients of each
-sixteen : Counted Odd 1 0 0 × Counted Odd 16 0 0 × Counted Even 1 0 0 × Counted Even 16 0 0
-sixteen = ((lit≤ tt, lit≤ tt), (lit≤ tt, lit≤ tt), (lit≤ tt, lit≤ tt), (lit≤ tt, lit≤ tt))
+-- 1 to 16 coefficients of each, as of a polynomial; and intervals below 0
+one-to-sixteen :
+    (Counted Polynomial 1 0 0 × Counted Polynomial 16 0 0)
+    × (Counted Odd 1 0 0 × Counted Odd 16 0 0)
+    × (Counted Even 1 0 0 × Counted Even 16 0 0)
+one-to-sixteen = (
+  ((lit≤ tt, lit≤ tt), (lit≤ tt, lit≤ tt)),
+  ((lit≤ tt, lit≤ tt), (lit≤ tt, lit≤ tt)),
+  ((lit≤ tt, lit≤ tt), (lit≤ tt, lit≤ tt)),
+)
 
-none-of-seventeen : (Counted Odd 0 0 0 → ⊥) × (Counted Odd 17 0 0 → ⊥) × (Counted Even 0 0 0 → ⊥) × (Counted Even 17 0 0 → ⊥)
-none-of-seventeen = (λ h. omega (arith, h), λ h. omega (arith, h), λ h. omega (arith, h), λ h. omega (arith, h))
+nor-none-nor-seventeen :
+    ((Counted Polynomial 0 0 0 → ⊥) × (Counted Polynomial 17 0 0 → ⊥))
+    × ((Counted Odd 0 0 0 → ⊥) × (Counted Odd 17 0 0 → ⊥))
+    × ((Counted Even 0 0 0 → ⊥) × (Counted Even 17 0 0 → ⊥))
+nor-none-nor-seventeen = (
+  (λ h. omega (arith, h), λ h. omega (arith, h)),
+  (λ h. omega (arith, h), λ h. omega (arith, h)),
+  (λ h. omega (arith, h), λ h. omega (arith, h)),
+)
+
+below-zero : RootInterval Odd (negsuc 0) × RootInterval Even (negsuc 0)
+below-zero = (tt, tt)

@@ -13,7 +13,8 @@ pub enum Kind {
     NoFormula,
 }
 
-// What a formula's stored words mean: p is the count of a polynomial, odd and even ones included, the numerator's count or the depth; q is the divisor's count.
+// What a formula's stored words mean: p is the count of a polynomial, odd and even ones included, the numerator's count or the
+// depth; q is the divisor's count.
 pub struct Shape {
     pub kind: Kind,
     pub p: u16,

@@ -2,7 +2,7 @@
 use Rattle.whole.proofs.Basics.{_≡_, List, ℕ, suc, zero, _+_, _-_, _≤_, arith, ℤ, natAbs}
 use Rattle.whole.proofs.Order.{abs-add, abs-least}
 use Rattle.word.specs.Words.{Word, NotZero, productOf, quotientOf, boundProduct}
-use Rattle.word.proofs.WordLaws.{product-within, quotient-within}
+use Rattle.word.proofs.WordLaws.{product-within, square-within, quotient-within}
 use Rattle.word.specs.Lists.{All}
 use Rattle.admission.specs.declared.Admission.the-variants.{Admitted}
 use Rattle.admission.proofs.AdmissionLaws.{ranged-out, apart-out}
@@ -31,12 +31,9 @@ module _ (s : ℕ) (first rest : ℤ) (F R : ℕ) (ws : List ℤ) (f : natAbs fi
       ((omega (arith, term .0), (omega (arith, sum .0), (omega (arith, sum .0, abs-add b (quotientOf s (productOf s a v) t)), onward .0))), (omega (arith, apart .0), onward .1))
 
 -- ---- by the mode
-pub square-size : (s A : ℕ) (x : ℤ) → natAbs x ≤ A → natAbs (productOf s x x) ≤ boundProduct s A A
-square-size s A x h = product-within s x x A A h h
-
 first-size : (m s A : ℕ) (x : ℤ) → natAbs x ≤ A → natAbs (firstOf m x (productOf s x x)) ≤ firstOf m A (boundProduct s A A)
 first-size zero s A x h = h
-first-size (suc zero) s A x h = square-size s A x h
+first-size (suc zero) s A x h = square-within s A x h
 first-size (suc (suc m)) s A x h = h
 
 pub fraction-stays : (s A mode : ℕ) (ws : List ℤ) (k : ℕ) (x : ℤ) → natAbs x ≤ A → fractionAdmission s A mode ws k ≡ Admitted → All Word (fractionNumbers s mode ws k x) × All NotZero (fractionDivisors s mode ws k x)
@@ -45,8 +42,8 @@ fraction-stays s A (suc m) ws k x h e =
     let S = boundProduct s A A in
     let q = productOf s x x in
     let r = ranged-out S _ e in
-    let z = outward-stays s (firstOf (suc m) x q) q (firstOf (suc m) A S) S ws (first-size (suc m) s A x h) (square-size s A x h) k (natAbs (bAt ws k)) (bAt ws k) (omega arith) (r .1) in
-    ((omega (arith, square-size s A x h, r .0), z .0), z .1)
+    let z = outward-stays s (firstOf (suc m) x q) q (firstOf (suc m) A S) S ws (first-size (suc m) s A x h) (square-within s A x h) k (natAbs (bAt ws k)) (bAt ws k) (omega arith) (r .1) in
+    ((omega (arith, square-within s A x h, r .0), z .0), z .1)
 
 -- ---- what the code asks for: the walk from b_k is ready
 pub rest-word : (s mode : ℕ) (ws : List ℤ) (k : ℕ) (x : ℤ) → FractionReady s mode ws k x → Word (restOf mode x (productOf s x x))

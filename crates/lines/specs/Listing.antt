@@ -75,14 +75,14 @@ unfolding listing countLine refusalLine linesFrom lineOf digitsBy decimal formul
 paper-listings = (refl, refl, refl, refl, refl)
 
 -- an odd formula and an even one, one step each, from -1 step to 1
-abbrev squaredSheet : List ℕ
-squaredSheet =
+abbrev oddAndEvenSheet : List ℕ
+oddAndEvenSheet =
     8 ∷ 0 ∷ 0 ∷ 0 ∷ 1 ∷ 0 ∷ 2 ∷ 0
     ∷ 20 ∷ 0 ∷ 0 ∷ 0 ∷ 0x14 ∷ 0 ∷ 1 ∷ 0 ∷ 0xff ∷ 0xff ∷ 0xff ∷ 0xff ∷ 1 ∷ 0 ∷ 0 ∷ 0 ∷ 1 ∷ 0 ∷ 0 ∷ 0
     ∷ 20 ∷ 0 ∷ 0 ∷ 0 ∷ 0x15 ∷ 0 ∷ 2 ∷ 0 ∷ 0xff ∷ 0xff ∷ 0xff ∷ 0xff ∷ 1 ∷ 0 ∷ 0 ∷ 0 ∷ 1 ∷ 0 ∷ 0 ∷ 0
     ∷ 8 ∷ 0 ∷ 0 ∷ 0 ∷ 0xff ∷ 0xff ∷ 2 ∷ 0
     ∷ []
 
-odd-and-even-listed : listing squaredSheet ≡ text "formulas 2\n1 odd -1 1\n2 even -1 1\n"
+odd-and-even-listed : listing oddAndEvenSheet ≡ text "formulas 2\n1 odd -1 1\n2 even -1 1\n"
 unfolding boundOf roundedUp listing countLine refusalLine linesFrom lineOf digitsBy decimal formulaCount walkOf walkFrom faultAt foundBy ending frameFault bytesAt recordFault lengthFault sizeFault countFault outside startFault scaleFault orderFault endFault valueFault ownFault intervalFault wordsFault number2 number4 words rows firstRow rowOf firstCount fieldOf shapeOf piecesBy formulaOf
 odd-and-even-listed = refl

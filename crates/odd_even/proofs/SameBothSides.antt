@@ -9,7 +9,7 @@ use Rattle.odd_even.specs.OddEven.{squareOf, evenOf}
 negated-square : (x : ℤ) → negℤ x *ℤ negℤ x ≡ x *ℤ x
 negated-square x = same (⊖ v x ⊗ ⊖ v x) (v x ⊗ v x) (omega arith)
 
-pub same-square : (s : ℕ) (x : ℤ) → squareOf s (negℤ x) ≡ squareOf s x
+same-square : (s : ℕ) (x : ℤ) → squareOf s (negℤ x) ≡ squareOf s x
 same-square s x = ap (λ (z : ℤ). rounded z (unit s)) (negated-square x)
 
 pub even-same : (s : ℕ) (ws : List ℤ) (x : ℤ) → evenOf s ws (negℤ x) ≡ evenOf s ws x

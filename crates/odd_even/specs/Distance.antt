@@ -16,11 +16,14 @@ oddExactSum s ws n x = x *ℤ exactSum s ws n (squareOf s x)
 abbrev pub oddSpreadSum : ℕ → ℕ → ℤ → ℕ
 oddSpreadSum s n x = 2 ^ (s * suc n) + natAbs x * spreadSum s n (squareOf s x)
 
--- ---- worked examples: x·(1 - s/2) at minus a half is -7/16; what one product leaves there, and none
+-- ---- worked examples: x·(1 - s/2) at minus a half is -7/16; what two products leave there, one, and none
 odd-bend-exact : oddExactSum 24 (pos 16777216 ∷ negsuc 8388607 ∷ []) 1 (negsuc 8388607) ≡ negsuc 7340031 *ℤ pos (2 ^ 48)
 unfolding rounded sumBelowℤ pow one
 odd-bend-exact = refl
 
-odd-room : (oddSpreadSum 24 1 (negsuc 8388607) ≡ 2 ^ 48 + 8388608 * 2 ^ 24) × (oddSpreadSum 24 0 (negsuc 8388607) ≡ 2 ^ 24)
+odd-room :
+    (oddSpreadSum 24 2 (negsuc 8388607) ≡ 2 ^ 72 + 8388608 * (2 ^ 48 + 4194304 * 2 ^ 24))
+    × (oddSpreadSum 24 1 (negsuc 8388607) ≡ 2 ^ 48 + 8388608 * 2 ^ 24)
+    × (oddSpreadSum 24 0 (negsuc 8388607) ≡ 2 ^ 24)
 unfolding sumBelow rounded
-odd-room = (refl, refl)
+odd-room = (refl, refl, refl)

@@ -4,7 +4,7 @@ ghost use mathlib.Core.Path.{_≡_};
 ghost use Prim.Native.Nat.{_^_, _≤_};
 ghost use Rattle.word.specs.Words.{Scale};
 ghost use Rattle.stored.specs.Words.{words, Stretch};
-ghost use Rattle.odd_even.specs.OddEven.{evenOf, oddOf, squareBound, evenAdmission, oddAdmission, EvenReady, OddReady};
+ghost use Rattle.odd_even.specs.OddEven.{evenOf, oddOf, boundAtSquare, evenAdmission, oddAdmission, EvenReady, OddReady};
 use admission::Admission;
 use polynomial::Bounding;
 
@@ -24,9 +24,9 @@ pub fn odd(b: &[u8], at: usize, m: usize, x: i32, s: u32) -> i32
 }
 
 // B_0 with S, the bound product of A with itself, in place of A. An S above the largest word is Beyond, whatever the coefficients are.
-fn square_bound(b: &[u8], at: usize, m: usize, most: u32, s: u32) -> Bounding
+fn bound_at_square(b: &[u8], at: usize, m: usize, most: u32, s: u32) -> Bounding
     requires { ⌜ Scale s × Stretch (now b) at m × (most ≤ 2 ^ 31) ⌝ }
-    ensures { λ r. ⌜ r ≡ squareBound s most (words (now (b .entry)) at m) ⌝ }
+    ensures { λ r. ⌜ r ≡ boundAtSquare s most (words (now (b .entry)) at m) ⌝ }
 {
     let square = word::bound_product(most, most, s);
     if word::LARGEST < square {
@@ -39,7 +39,7 @@ pub fn admit_even(b: &[u8], at: usize, m: usize, most: u32, s: u32) -> Admission
     requires { ⌜ Scale s × Stretch (now b) at m × (most ≤ 2 ^ 31) ⌝ }
     ensures { λ r. ⌜ r ≡ evenAdmission s most (words (now (b .entry)) at m) ⌝ }
 {
-    match square_bound(b, at, m, most, s) {
+    match bound_at_square(b, at, m, most, s) {
         Bounding::Within(_) => Admission::Admitted,
         Bounding::Beyond => Admission::RangeLeft,
     }
@@ -49,7 +49,7 @@ pub fn admit_odd(b: &[u8], at: usize, m: usize, most: u32, s: u32) -> Admission
     requires { ⌜ Scale s × Stretch (now b) at m × (most ≤ 2 ^ 31) ⌝ }
     ensures { λ r. ⌜ r ≡ oddAdmission s most (words (now (b .entry)) at m) ⌝ }
 {
-    match square_bound(b, at, m, most, s) {
+    match bound_at_square(b, at, m, most, s) {
         Bounding::Within(low) => {
             if word::LARGEST < word::bound_product(low, most, s) {
                 return Admission::RangeLeft;

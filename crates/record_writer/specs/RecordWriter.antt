@@ -50,10 +50,11 @@ recordWriterRefusals = 3 ∷ 2 ∷ 6 ∷ 7 ∷ 8 ∷ 12 ∷ []
 abbrev pub bytesOf : Formula → List ℕ
 bytesOf f = recordBytes (rowBy f) (plain f)
 
--- what is put together at the front of an array: the record and its length, or nothing and 0 where a count is outside its range
+-- 2 for a count outside its range, of the formula with the fields that its kind has
 abbrev pub countsFault : Formula → ℕ
 countsFault f = countFault (rowBy f) (plain f .shape .p) (plain f .shape .q)
 
+-- what is put together at the front of an array: the record, and its length; or nothing, and 0, where there is that fault
 abbrev pub putSize : Formula → ℕ
 putSize f = cond (eqb (countsFault f) 0) (length (bytesOf f)) 0
 
@@ -90,10 +91,16 @@ root-places = (refl, refl, refl, refl)
 abbrev zeros : ℕ → Formula
 zeros n = formula 1 (shape Polynomial n 0 0) (pos 0) (pos 0) (replicate 32 (pos 0))
 
--- 20 bytes are put together for one, none for 0 or 17
-sizes : (putSize (zeros 0) ≡ 0) × (putSize (zeros 1) ≡ 20) × (putSize (zeros 17) ≡ 0) × (putInto (zeros 17) (7 ∷ []) ≡ 7 ∷ [])
+-- 20 bytes are put together for one, 80 for 16, none for 0 or 17; what stands behind a record stays
+sizes :
+    (putSize (zeros 0) ≡ 0)
+    × (putSize (zeros 1) ≡ 20)
+    × (putSize (zeros 16) ≡ 80)
+    × (putSize (zeros 17) ≡ 0)
+    × (putInto (zeros 17) (7 ∷ []) ≡ 7 ∷ [])
+    × (putInto exampleRoot (replicate 17 9) ≡ 0x10 ∷ 0 ∷ 0 ∷ 0 ∷ 0x13 ∷ 0 ∷ 1 ∷ 0 ∷ 0 ∷ 0 ∷ 0 ∷ 0 ∷ 0 ∷ 0 ∷ 0 ∷ 2 ∷ 9 ∷ [])
 unfolding rows firstRow rowOf codeFor bytes2 bytes4 piecesBy padded kept plainShape plainBy outside countFault frontBytes headBytes fieldBytes fieldsBytes wordBytes recordBytes
-sizes = (refl, refl, refl, refl)
+sizes = (refl, refl, refl, refl, refl, refl)
 
 -- 1 to 16 coefficients
 counts :

@@ -32,8 +32,9 @@ fn copy_judged(bytes: &[u8], out: &mut [u8], s: u32) -> Writing
     Writing::Written(bytes.len())
 }
 
-// The record of a formula, put together at the front of an array by the row of the kind's code; 0 where a count is outside its range.
-fn put_by(f: Formula, code: u16, bytes: &mut [u8; 120]) -> usize
+// Puts a formula's record at the front of an array, by the row of its kind's code, and answers its length; 0, and nothing put, where a count
+// is outside its range.
+fn put_by_code(f: Formula, code: u16, bytes: &mut [u8; 120]) -> usize
     requires code { ⌜ code ≡ codeFor (f .shape .kind) ⌝ }
     requires formula { ⌜ rowOf code .class ≡ FormulaRecord ⌝ }
     ensures size { λ n. ⌜ n ≡ putSize f ⌝ }
@@ -48,20 +49,21 @@ fn put_by(f: Formula, code: u16, bytes: &mut [u8; 120]) -> usize
     putting::put_record(row, shape, f, bytes)
 }
 
-// The code of each kind by its name: the compiler then has the row's numbers as constants.
-fn put_any(f: Formula, code: u16, bytes: &mut [u8; 120]) -> usize
+// The same for any formula, the code of its kind by name: the compiler then has the row's numbers as constants.
+fn put_by_kind(f: Formula, code: u16, bytes: &mut [u8; 120]) -> usize
     requires code { ⌜ code ≡ codeFor (f .shape .kind) ⌝ }
     requires formula { ⌜ rowOf code .class ≡ FormulaRecord ⌝ }
     ensures size { λ n. ⌜ n ≡ putSize f ⌝ }
     ensures bytes { λ n. ⌜ now (bytes .exit) ≡ putInto f (now (bytes .entry)) ⌝ }
 {
     match code {
-        table::POLYNOMIAL => put_by(f, table::POLYNOMIAL, bytes),
-        table::RATIONAL => put_by(f, table::RATIONAL, bytes),
-        table::FRACTION => put_by(f, table::FRACTION, bytes),
-        table::ROOT => put_by(f, table::ROOT, bytes),
-        table::ODD => put_by(f, table::ODD, bytes),
-        table::EVEN => put_by(f, table::EVEN, bytes),
+        table::POLYNOMIAL => put_by_code(f, table::POLYNOMIAL, bytes),
+        table::RATIONAL => put_by_code(f, table::RATIONAL, bytes),
+        table::FRACTION => put_by_code(f, table::FRACTION, bytes),
+        table::ROOT => put_by_code(f, table::ROOT, bytes),
+        table::ODD => put_by_code(f, table::ODD, bytes),
+        table::EVEN => put_by_code(f, table::EVEN, bytes),
+        // no other code is a formula's
         _ => 0,
     }
 }
@@ -81,7 +83,8 @@ pub fn write_record(f: Formula, out: &mut [u8], s: u32) -> Writing
         return answers::refused_by(a);
     }
     let mut bytes = [0u8; 120];
-    let n = put_any(f, code, &mut bytes);
+    let n = put_by_kind(f, code, &mut bytes);
+    // nothing was put together: a count outside its range is the only cause
     if n == 0 {
         return answers::refused_by(2);
     }

@@ -105,16 +105,16 @@ range-first = (refl, refl)
 
 -- odd and even, up to twelve, whose square is no word (7): 2 comes before for one byte too many, 6 for a coefficient that is no word. Up to two an
 -- odd one leaves the range by its last product, which an even one has not
-abbrev squared : ℕ → ℕ → ℕ → List ℕ
-squared code hi c = recorded 20 code 5 0 hi (bytes4 c)
+abbrev ofOneCoefficient : ℕ → ℕ → ℕ → List ℕ
+ofOneCoefficient code hi c = recorded 20 code 5 0 hi (bytes4 c)
 
 odd-and-even-records :
-    (formulaFault 24 (rowOf 0x0014) (squared 0x0014 201326592 1) 0 1 5 ≡ 7)
-    × (formulaFault 24 (rowOf 0x0015) (squared 0x0015 201326592 1) 0 1 5 ≡ 7)
+    (formulaFault 24 (rowOf 0x0014) (ofOneCoefficient 0x0014 201326592 1) 0 1 5 ≡ 7)
+    × (formulaFault 24 (rowOf 0x0015) (ofOneCoefficient 0x0015 201326592 1) 0 1 5 ≡ 7)
     × (formulaFault 24 (rowOf 0x0015) (recorded 21 0x0015 5 0 201326592 (bytes4 1 ++ (0 ∷ []))) 0 1 5 ≡ 2)
-    × (formulaFault 24 (rowOf 0x0015) (squared 0x0015 201326592 2147483648) 0 1 5 ≡ 6)
-    × (formulaFault 24 (rowOf 0x0014) (squared 0x0014 33554432 1073741823) 0 1 5 ≡ 0)
-    × (formulaFault 24 (rowOf 0x0014) (squared 0x0014 33554432 1073741824) 0 1 5 ≡ 7)
-    × (formulaFault 24 (rowOf 0x0015) (squared 0x0015 33554432 1073741824) 0 1 5 ≡ 0)
+    × (formulaFault 24 (rowOf 0x0015) (ofOneCoefficient 0x0015 201326592 2147483648) 0 1 5 ≡ 6)
+    × (formulaFault 24 (rowOf 0x0014) (ofOneCoefficient 0x0014 33554432 1073741823) 0 1 5 ≡ 0)
+    × (formulaFault 24 (rowOf 0x0014) (ofOneCoefficient 0x0014 33554432 1073741824) 0 1 5 ≡ 7)
+    × (formulaFault 24 (rowOf 0x0015) (ofOneCoefficient 0x0015 33554432 1073741824) 0 1 5 ≡ 0)
 unfolding bytes2 bytes4 number2 number4 words rows firstRow rowOf firstCount fieldOf shapeOf piecesBy outside countFault sizeFault lengthFault orderFault intervalFault ownFault wordsFault boundOf roundedUp valueFault formulaFault
 odd-and-even-records = (refl, refl, refl, refl, refl, refl, refl)

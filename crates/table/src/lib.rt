@@ -59,6 +59,8 @@ pub const EVEN: u16 = 0x0015;
 pub const END: u16 = 0xffff;
 
 // A row as the table keeps it, its numbers side by side: the prover's work for a constant grows with the structs in it.
+// The numbers, from left to right: head, width, base; then at, least, most, each of p; the same four of q; of the mode; of the
+// count.
 struct Line {
     code: u16,
     class: Class,
@@ -66,9 +68,8 @@ struct Line {
     numbers: [u16; 19],
 }
 
-// The numbers of a row, from left to right: head, width, base; then at, least, most, each of p; the same four of q; of the
-// mode; of the count. An odd and an even polynomial are laid out as the polynomial.
-const COEFFICIENTS: [u16; 19] = [16, 4, 0, 0, 1, 16, 1, 0, 0, 0, 0, 0, 0, 0, 0, 0, 0, 0, 0];
+// A polynomial's numbers; odd and even ones are laid out as it is.
+const POLYNOMIAL_NUMBERS: [u16; 19] = [16, 4, 0, 0, 1, 16, 1, 0, 0, 0, 0, 0, 0, 0, 0, 0, 0, 0, 0];
 
 const ROWS: [Line; 8] = [
     Line {
@@ -81,7 +82,7 @@ const ROWS: [Line; 8] = [
         code: POLYNOMIAL,
         class: Class::FormulaRecord,
         kind: Kind::Polynomial,
-        numbers: COEFFICIENTS,
+        numbers: POLYNOMIAL_NUMBERS,
     },
     Line {
         code: RATIONAL,
@@ -105,13 +106,13 @@ const ROWS: [Line; 8] = [
         code: ODD,
         class: Class::FormulaRecord,
         kind: Kind::Odd,
-        numbers: COEFFICIENTS,
+        numbers: POLYNOMIAL_NUMBERS,
     },
     Line {
         code: EVEN,
         class: Class::FormulaRecord,
         kind: Kind::Even,
-        numbers: COEFFICIENTS,
+        numbers: POLYNOMIAL_NUMBERS,
     },
     Line {
         code: END,

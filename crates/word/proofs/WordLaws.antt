@@ -36,6 +36,10 @@ bound-mono s a b a′ b′ f g = up-mono (a * b) (a′ * b′) (unit s) (unit-po
 pub product-within : (s : ℕ) (a b : ℤ) (A B : ℕ) → natAbs a ≤ A → natAbs b ≤ B → natAbs (productOf s a b) ≤ boundProduct s A B
 product-within s a b A B f g = omega (arith, product-size s a b, bound-mono s (natAbs a) (natAbs b) A B f g)
 
+-- S bounds the square
+pub square-within : (s A : ℕ) (x : ℤ) → natAbs x ≤ A → natAbs (productOf s x x) ≤ boundProduct s A A
+square-within s A x h = product-within s x x A A h h
+
 -- ---- quotient
 -- the quotient times d is within half of |d| of a·2^s, whatever the signs
 pub quotient-near : (s : ℕ) (a d : ℤ) → NotZero d → 2 * natAbs (quotientOf s a d *ℤ d -ℤ a *ℤ pos (unit s)) ≤ natAbs d

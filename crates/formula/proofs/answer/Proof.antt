@@ -11,7 +11,7 @@ use Rattle.fraction.specs.Ready.{FractionReady}
 use Rattle.formula.specs.Formula.{answerBy, answerOf, wordCount, storedWords}
 use Rattle.formula.specs.declared.Kind.{Kind}
 use Rattle.formula.specs.declared.Kind.the-variants.{Polynomial, Rational, Fraction, Root, Odd, Even, NoFormula}
-use Rattle.formula.proofs.ReadyLaws.{polynomial-ready, rational-ready, fraction-ready, root-ready, odd-formula-ready, even-formula-ready}
+use Rattle.formula.proofs.ReadyLaws.{polynomial-ready, rational-ready, fraction-ready, root-ready, odd-ready, even-ready}
 use Rattle.formula.proofs.answer.Statement.{statement}
 use Rattle.formula.proofs.answer.Tie as tie
 
@@ -91,14 +91,14 @@ odd-requires c κs =
     let d = c .before .before .before .before in
     let a = d .args in
     let e = c .enum-told5 .given .1 in
-    (reach d Odd e, rw (x-is d, ← one-list d Odd refl e) (odd-formula-ready (a .s) (a .shape) (ws d) (a .x) (d .pre .1) e))
+    (reach d Odd e, rw (x-is d, ← one-list d Odd refl e) (odd-ready (a .s) (a .shape) (ws d) (a .x) (d .pre .1) e))
 
 even-requires : tie.Need-even-requires
 even-requires c κs =
     let d = c .before .before .before .before in
     let a = d .args in
     let e = c .enum-told6 .given .1 in
-    (reach d Even e, rw (x-is d, ← one-list d Even refl e) (even-formula-ready (a .s) (a .shape) (ws d) (a .x) (d .pre .1) e))
+    (reach d Even e, rw (x-is d, ← one-list d Even refl e) (even-ready (a .s) (a .shape) (ws d) (a .x) (d .pre .1) e))
 
 returns : tie.Need-returns
 returns c =

@@ -47,8 +47,8 @@ returns-2 c =
       rw (c .refused-by2 .ensures) refl,
     )
 
-put-any-requires : tie.Need-put-any-requires
-put-any-requires c κs = let i = c .before .before .before in (i .before .code-for .ensures, rw (i .before .code-for .ensures) (class i))
+put-by-kind-requires : tie.Need-put-by-kind-requires
+put-by-kind-requires c κs = let i = c .before .before .before in (i .before .code-for .ensures, rw (i .before .code-for .ensures) (class i))
 
 returns-3 : tie.Need-returns-3
 unfolding plainWriting
@@ -58,7 +58,7 @@ returns-3 c =
     let i = g .before in
     let s = i .before .before .before .before in
     let a = s .args in
-    let two = put-none (a .f) (class i) (handed s) (sym (p .put-any .ensures .0) ∙ c .before .if3 .taken) in (
+    let two = put-none (a .f) (class i) (handed s) (sym (p .put-by-kind .ensures .0) ∙ c .before .if3 .taken) in (
       at-code (a .s) (a .f) (length (now (a .out))) (i .before .code-for .result) (i .before .code-for .ensures) (formula i)
           (goes refusedBy (g .scale-fault .ensures) (p .before .before .if2 .left) (halts refusedBy _ (sym two) (λ z. omega arith) (c .refused-by3 .ensures))),
       rw (c .refused-by3 .ensures) refl,
@@ -66,7 +66,7 @@ returns-3 c =
 
 -- ---- past the counts: the record at the front of the array
 module _ (c : tie.Else3) where
-  abbrev put : tie.After-put-any
+  abbrev put : tie.After-put-by-kind
   put = c .before
 
   abbrev start : tie.Start
@@ -76,22 +76,22 @@ module _ (c : tie.Else3) where
   f = start .args .f
 
   counts : countsFault f ≡ 0
-  counts = put-some f (class (put .before .before .before .before)) (handed start) (λ z. c .if3 .left (put .put-any .ensures .0 ∙ z))
+  counts = put-some f (class (put .before .before .before .before)) (handed start) (λ z. c .if3 .left (put .put-by-kind .ensures .0 ∙ z))
 
-  long : put .put-any .result ≡ length (bytesOf f)
-  long = rw (eq-eqb _ _ counts) at (put .put-any .ensures .0)
+  long : put .put-by-kind .result ≡ length (bytesOf f)
+  long = rw (eq-eqb _ _ counts) at (put .put-by-kind .ensures .0)
 
   short : (16 ≤ length (bytesOf f)) × (length (bytesOf f) ≤ 120)
   short = short-record (rowBy f) (plain f) (tidy f (class (put .before .before .before .before)) counts (handed start))
 
   abbrev array : List ℕ
-  array = put .put-any .last .1 .1 .0
+  array = put .put-by-kind .last .1 .1 .0
 
   array-is : array ≡ sets (replicate 120 0) 0 (bytesOf f)
-  array-is = rw (eq-eqb _ _ counts) at (put .put-any .ensures .1)
+  array-is = rw (eq-eqb _ _ counts) at (put .put-by-kind .ensures .1)
 
-  first-bytes : take (put .put-any .result) array ≡ bytesOf f
-  first-bytes = ap (take (put .put-any .result)) array-is ∙ front-taken (replicate 120 0) (bytesOf f) (put .put-any .result) long (omega (arith, short .1))
+  first-bytes : take (put .put-by-kind .result) array ≡ bytesOf f
+  first-bytes = ap (take (put .put-by-kind .result)) array-is ∙ front-taken (replicate 120 0) (bytesOf f) (put .put-by-kind .result) long (omega (arith, short .1))
 
   room : length array ≡ 120
   room = ap length array-is ∙ length-sets (replicate 120 0) 0 (bytesOf f)
@@ -132,7 +132,7 @@ write-record-spec =
     (λ c κs. search needs)
     (λ c κs. search needs)
     returns-2
-    put-any-requires
+    put-by-kind-requires
     (λ c κs. search needs)
     returns-3
     array-share-prefix-bytes

@@ -1,4 +1,4 @@
--- `record_writer::put_by` meets its contract: a count's fault, or the formula's record by its row.
+-- `record_writer::put_by_code` meets its contract: a count's fault, or the formula's record by its row.
 use Rattle.whole.proofs.Basics.{_≡_, _∙_, refl, sym, ap, length, ℕ, needs, ne-eqb, eq-eqb}
 use Rattle.table.specs.declared.Class.the-variants.{FormulaRecord}
 use Rattle.table.specs.Table.{rowOf}
@@ -7,8 +7,8 @@ use Rattle.putting.specs.Bytes.{Ready}
 use Rattle.putting.proofs.RecordLaws.{length-record}
 use Rattle.record_writer.specs.RecordWriter.{countsFault, bytesOf}
 use Rattle.record_writer.proofs.RecordWriting.{ready}
-use Rattle.record_writer.proofs.put_by.Statement.{statement}
-use Rattle.record_writer.proofs.put_by.Tie as tie
+use Rattle.record_writer.proofs.put_by_code.Statement.{statement}
+use Rattle.record_writer.proofs.put_by_code.Tie as tie
 
 -- the row is that of the formula's kind
 row : (c : tie.After-row-of) → c .row-of .result ≡ rowBy (c .before .args .f)
@@ -48,5 +48,5 @@ returns-2 c =
     let long : length (bytesOf f) ≡ c .put-record .result = length-record (rowBy f) (plain f) (past i) ∙ sym (rw (p .plain-shape .ensures, row (p .before .before)) at (c .put-record .ensures .0 .0)) in
     rw (eq-eqb _ _ (none i)) (sym long, rw (row (p .before .before)) at (c .put-record .ensures .1))
 
-pub put-by-spec : {M : Type 1} → statement M
-put-by-spec = tie.close (tie.spec (λ c κs. search needs) (λ c κs. search needs) (λ c κs. search needs) returns put-record-requires returns-2)
+pub put-by-code-spec : {M : Type 1} → statement M
+put-by-code-spec = tie.close (tie.spec (λ c κs. search needs) (λ c κs. search needs) (λ c κs. search needs) returns put-record-requires returns-2)
