@@ -19,7 +19,8 @@ enum { ROWS = 32, ROOM = VP_MOST_FORMULAS * VP_LONGEST_RECORD + VP_SHEET_ADDS };
 
 typedef struct { uint8_t bytes[ROOM]; size_t length; } sheet;
 
-/* A formula of the whole sheet, by its kind and number: its fields, a sheet of it alone, and arguments of its interval. */
+/* A formula of the whole sheet, by its kind and number, or the odd one padded: its fields, a sheet of it alone, and arguments of
+   its interval. */
 typedef struct {
     const char *name;
     uint16_t kind, number;

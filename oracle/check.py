@@ -205,66 +205,82 @@ def cut_record(record, length):
     return with_field(record[:length], 0, "I", length)
 
 
-def check_order(tally, rng):
-    """The reader's refusals and their order, case by case."""
+def refused_by_frames():
+    """Sheets with a start, a kind, a length or a count of coefficients at
+    fault, each with the refusal's number and place."""
+    one, end = framing(START, 1), framing(END, 1)
+    good = root_record(5)
+    ratio = rational_record(5, 1, 1, (1, 1))
+    return (
+        # The start record.
+        (bytes(3), 1, 0), (bytes(4), 2, 0), (framing(START, 0, 7), 2, 0),
+        (framing(START, 0, 121), 2, 0), (framing(START, 0, 120), 1, 0),
+        (framing(END, 0, 9) + b"\0", 3, 0), (end, 3, 0), (good, 3, 0),
+        (framing(START, 0, 9) + b"\0", 2, 0), (framing(START, 0), 4, 0),
+        (framing(START, 65), 4, 0), (one, 1, 8),
+        # 1 and 2 before 3, and 3 before the exact length.
+        (one + framing(START, 1, 7), 2, 8),
+        (one + framing(START, 1, 9), 1, 8),
+        (one + framing(START, 1, 9) + b"\0", 3, 8),
+        (one + framing(0x0016, 1), 3, 8),
+        # The exact length and counts.
+        *((one + cut_record(ratio, n) + end, 2, 8) for n in range(8, 28)),
+        *((one + polynomial_record(5, (1,) * m, kind=kind) + end, 2, 8)
+          for kind in POLYNOMIALS for m in (0, 17, 26)),
+        *((one + cut_record(polynomial_record(5, (1, 1), kind=kind), n)
+           + end, 2, 8)
+          for kind in POLYNOMIALS for n in (8, 16, 19, 21, 23)),
+        (one + rational_record(5, 0, 2, (1, 1)) + end, 2, 8),
+        (one + rational_record(5, 13, 1, (1,) * 14) + end, 2, 8),
+        (one + fraction_record(5, 3, 0, (1,)) + end, 2, 8),
+        (one + fraction_record(5, 0, 13, (1,) * 25) + end, 2, 8))
+
+
+def refused_by_values():
+    """Sheets with an order, an end or a value at fault, each with the
+    refusal's number and place."""
     one, end = framing(START, 1), framing(END, 1)
     two = framing(START, 2)
     good = root_record(5)
     ratio = rational_record(5, 1, 1, (1, 1))
-    for sheet, number, place in (
-            # The start record.
-            (bytes(3), 1, 0), (bytes(4), 2, 0), (framing(START, 0, 7), 2, 0),
-            (framing(START, 0, 121), 2, 0), (framing(START, 0, 120), 1, 0),
-            (framing(END, 0, 9) + b"\0", 3, 0), (end, 3, 0), (good, 3, 0),
-            (framing(START, 0, 9) + b"\0", 2, 0), (framing(START, 0), 4, 0),
-            (framing(START, 65), 4, 0), (one, 1, 8),
-            # 1 and 2 before 3, and 3 before the exact length.
-            (one + framing(START, 1, 7), 2, 8),
-            (one + framing(START, 1, 9), 1, 8),
-            (one + framing(START, 1, 9) + b"\0", 3, 8),
-            (one + framing(0x0016, 1), 3, 8),
-            # The exact length and counts.
-            *((one + cut_record(ratio, n) + end, 2, 8) for n in range(8, 28)),
-            *((one + polynomial_record(5, (1,) * m, kind=kind) + end, 2, 8)
-              for kind in POLYNOMIALS for m in (0, 17, 26)),
-            *((one + cut_record(polynomial_record(5, (1, 1), kind=kind), n)
-               + end, 2, 8)
-              for kind in POLYNOMIALS for n in (8, 16, 19, 21, 23)),
-            (one + rational_record(5, 0, 2, (1, 1)) + end, 2, 8),
-            (one + rational_record(5, 13, 1, (1,) * 14) + end, 2, 8),
-            (one + fraction_record(5, 3, 0, (1,)) + end, 2, 8),
-            (one + fraction_record(5, 0, 13, (1,) * 25) + end, 2, 8),
-            # A formula too many: after 2, before 5 and 6.
-            (one + good + root_record(5, NO_WORD) + end, 4, 24),
-            (one + good + cut_record(ratio, 24) + end, 2, 24),
-            # The end record: too early, another count, bytes after it.
-            (two + good + framing(END, 2), 4, 24),
-            (two + good + framing(END, 2, 9) + b"\0", 2, 24),
-            (one + good + framing(END, 2), 4, 24),
-            (one + good + framing(END, 2) + b"\0", 4, 24),
-            (one + good + end + b"\0", 9, 32),
-            (one + good + end + one, 9, 32),
-            # 5 before 6, 6 before 7 and 8.
-            (two + good + root_record(5, -1) + framing(END, 2), 5, 24),
-            (two + good + root_record(4, -1) + framing(END, 2), 5, 24),
-            (two + good + root_record(6, -1) + framing(END, 2), 6, 24),
-            (one + root_record(5, 2, 1) + end, 6, 8),
-            (one + fraction_record(5, 3, 1, (0, 0, 0)) + end, 6, 8),
-            *((one + polynomial_record(5, (M, NO_WORD), -M, M, kind) + end,
-               6, 8) for kind in POLYNOMIALS),
-            # 7 and 8 as Admission meets them.
-            *((one + polynomial_record(5, (M, 1), kind=kind) + end, 7, 8)
-              for kind in POLYNOMIALS),
-            (one + rational_record(5, 2, 1, (M, 1, 0)) + end, 7, 8),
-            (one + rational_record(5, 1, 2, (0, M, 1)) + end, 7, 8),
-            (one + rational_record(5, 1, 2, (128, 1, 1)) + end, 8, 8),
-            (one + rational_record(5, 1, 2, (128, 2, 1)) + end, 7, 8),
-            (one + fraction_record(5, 1, 1, (0, 0, 0), -M, M) + end, 7, 8),
-            (one + fraction_record(5, 2, 1, (0, 0, 1), -M, M) + end, 7, 8),
-            (one + fraction_record(5, 0, 1, (0, M, 0), -M, M) + end, 8, 8),
-            (one + fraction_record(5, 0, 1, (0, M, 1), -M, M) + end, 7, 8)):
+    return (
+        # A formula too many: after 2, before 5 and 6.
+        (one + good + root_record(5, NO_WORD) + end, 4, 24),
+        (one + good + cut_record(ratio, 24) + end, 2, 24),
+        # The end record: too early, another count, bytes after it.
+        (two + good + framing(END, 2), 4, 24),
+        (two + good + framing(END, 2, 9) + b"\0", 2, 24),
+        (one + good + framing(END, 2), 4, 24),
+        (one + good + framing(END, 2) + b"\0", 4, 24),
+        (one + good + end + b"\0", 9, 32),
+        (one + good + end + one, 9, 32),
+        # 5 before 6, 6 before 7 and 8.
+        (two + good + root_record(5, -1) + framing(END, 2), 5, 24),
+        (two + good + root_record(4, -1) + framing(END, 2), 5, 24),
+        (two + good + root_record(6, -1) + framing(END, 2), 6, 24),
+        (one + root_record(5, 2, 1) + end, 6, 8),
+        (one + fraction_record(5, 3, 1, (0, 0, 0)) + end, 6, 8),
+        *((one + polynomial_record(5, (M, NO_WORD), -M, M, kind) + end,
+           6, 8) for kind in POLYNOMIALS),
+        # 7 and 8 as Admission meets them.
+        *((one + polynomial_record(5, (M, 1), kind=kind) + end, 7, 8)
+          for kind in POLYNOMIALS),
+        (one + rational_record(5, 2, 1, (M, 1, 0)) + end, 7, 8),
+        (one + rational_record(5, 1, 2, (0, M, 1)) + end, 7, 8),
+        (one + rational_record(5, 1, 2, (128, 1, 1)) + end, 8, 8),
+        (one + rational_record(5, 1, 2, (128, 2, 1)) + end, 7, 8),
+        (one + fraction_record(5, 1, 1, (0, 0, 0), -M, M) + end, 7, 8),
+        (one + fraction_record(5, 2, 1, (0, 0, 1), -M, M) + end, 7, 8),
+        (one + fraction_record(5, 0, 1, (0, M, 0), -M, M) + end, 8, 8),
+        (one + fraction_record(5, 0, 1, (0, M, 1), -M, M) + end, 7, 8))
+
+
+def check_order(tally, rng):
+    """The reader's refusals and their order, case by case."""
+    for sheet, number, place in (*refused_by_frames(), *refused_by_values()):
         tally.same(f"sheet {sheet.hex()}", outcome(formula_count, sheet),
                    refused(number, place))
+    one, end = framing(START, 1), framing(END, 1)
     for sheet in (one + root_record(0) + end, one + root_record(65535) + end,
                   *(one + polynomial_record(5, (1,) * m, kind=kind) + end
                     for kind in POLYNOMIALS for m in (1, 16)),
@@ -334,8 +350,8 @@ def check_round_trips(tally, rng):
         tally.same("asked", formula_of(sheet, formula.number), formula)
 
 
-def check_writers(tally, rng):
-    """The writers' refusals and their order, and the buffer when refused."""
+def check_record_writer(tally, rng):
+    """Its refusals and their order, and the buffer when refused."""
     good = good_formula(rng, RATIONAL, p=2, q=2)
     long_words = good.words + (NO_WORD,) * 28
     for fields, room, number in (
@@ -360,6 +376,10 @@ def check_writers(tally, rng):
             expected = 0, bytes(4), b"\x24\0\0\0" + record_of(good)
         tally.same("record writer", (found[0], found[1:5], found[5:]),
                    expected)
+
+
+def check_sheet_writer(tally, rng):
+    """Its refusals and their order, and the buffer when refused."""
     first = root_record(1)
     most = b"".join(map(root_record, range(64)))
     for run, room, number, place in (
@@ -427,7 +447,7 @@ def check_vectors(tally, rng):
 
 CHECKS = (check_by_hand, check_arithmetic, check_formulas, check_polynomials,
           check_doubles, check_order, check_questions, check_round_trips,
-          check_writers, check_vectors)
+          check_record_writer, check_sheet_writer, check_vectors)
 
 
 def main():

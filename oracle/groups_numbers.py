@@ -198,8 +198,8 @@ def products_in_fractions(rng):
 
 
 def squares_in_fractions(rng):
-    """S at M and above it (7), which mode 0 does not form; with the innermost
-    b 0 as well (8 only where S has not given 7)."""
+    """S at its largest and above M (7), which mode 0 does not form; with the
+    innermost b 0 as well (8 only where S has not given 7)."""
     a = WIDEST
     for lo, hi in ((-a, a), (-a - 1, 0), (0, a + 1), (0, a), (-M, M), (-M, 0)):
         for mode in range(3):

@@ -3,8 +3,8 @@
     python3 tests/listings.py FOLDER
 
 writes NAME.in and NAME.out for each case. The listing is worked out here from
-paper 01, over the second program's reader; the program under test has no part
-in it. Records and sheets are put together by the paper's layout, for other
+paper 01 and request M-100, over the second program's reader; the program under
+test has no part in it. Records and sheets are put together by the paper's layout, for other
 tests too.
 """
 

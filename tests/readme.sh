@@ -24,7 +24,7 @@ shows 'cat mine.txt' 'sheets/make.py mine.txt --out desk' './valvepigeon ask des
 right 'both ways to the sheet' cmp desk/desk.sheet "$root/target/desk.sheet"
 
 cd "$root" || exit 2
-for page in README.md CHANGELOG.md docs/*.md sheets/README.md; do
+for page in README.md CHANGELOG.md docs/*.md docs/landings/*.md sheets/README.md; do
     for to in $(grep -oP '\]\(\K[^)#]+' "$page"); do right "$page links to $to" test -e "$(dirname "$page")/$to"; done
 done
 for folder in $(grep -oP '^\|[^|]*\|' README.md | grep -oP '`\K[^`]+/(?=`)'); do right "README.md names $folder" test -d "$folder"; done

@@ -1,7 +1,8 @@
 """What sheets/make.py says of a text, and the sheets that it makes of one.
 
 The lines, words and bytes that are expected here were worked out by hand from
-paper 01 and from sheets/README.md. The last line is 'N passed, M failed'.
+paper 01, request M-100 and sheets/README.md. The last line is 'N passed, M
+failed'.
 """
 
 import io
@@ -15,8 +16,12 @@ sys.path.insert(0, str(ROOT / "sheets"))
 
 import make
 from listings import EVEN, ODD, fraction, polynomial, rational, root, sheet
+from padding import measure_padded
+from paragraphs import Faults
+from printed import read_formulas
 from ready import Tally
 from sheet import read
+from table import compared_cells
 
 GOOD = """\
 # One formula of each kind, in two sheets.
@@ -344,7 +349,7 @@ def check_refusals(tally):
 
 
 def expected_files():
-    """The sheets of GOOD by the layout of paper 01."""
+    """The sheets of GOOD by the layout of paper 01 and request M-100."""
     one = 16777216
     records = [
         polynomial(7, -one, one, one, one, one // 2),
@@ -367,8 +372,8 @@ def check_good(tally):
         sums = made.files.pop("mine.sha256", None)
         tally.hold(f"the good text: {made.told}", made.status == 0
                    and not made.told and made.files == expected and sums)
-    for content in expected.values():
-        tally.hold("a sheet is read", len(read(content)) in (2, 4, 6))
+    tally.hold("the sheets are read", sorted(
+        len(read(content)) for content in expected.values()) == [2, 4, 6])
     for interval, lo, hi in INTERVALS:
         made = Made(one_formula("polynomial", ["coefficients: 1"], interval))
         formula = read(made.files["one.sheet"])[0] if made.files else None
@@ -396,12 +401,27 @@ def check_cut(tally):
             and all(line.isdigit() for line in lines)))
 
 
+def check_padding(tally):
+    """The bytes of odd and even formulas beside those of the padded ones: a
+    record holds 16 numbers, so nine terms are too many for an odd one."""
+    for kind, terms, cells in (
+            ("odd", 8, ("48", "80")), ("odd", 9, ("52", "–")),
+            ("even", 8, ("48", "76")), ("even", 9, ("52", "–"))):
+        text = one_formula(kind, ["function: sin x", "coefficients: "
+                                  + ", ".join(["0"] * terms)], "[0, 0]")
+        (printed,) = read_formulas(text.decode(), [], Faults())
+        found = compared_cells(printed, measure_padded(printed, 2))
+        tally.hold(f"{kind} of {terms}: {found}", (*found[1:],) == cells
+                   and (found[0] == "–") == (cells[1] == "–"))
+
+
 def main():
     tally = Tally()
     check_faults(tally)
     check_refusals(tally)
     check_good(tally)
     check_cut(tally)
+    check_padding(tally)
     print(f"{tally.passed} passed, {tally.failed} failed")
     return 1 if tally.failed else 0
 

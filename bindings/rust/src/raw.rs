@@ -20,7 +20,7 @@ pub struct Fields {
     pub q: u16,
     /// The fraction's mode.
     pub mode: u16,
-    /// The coefficients in stored order: p of a polynomial, p + q of a rational, 2 p + 1 of a fraction, none of a root.
+    /// The coefficients in stored order: p of a polynomial, odd and even ones included, p + q of a rational, 2 p + 1 of a fraction, none of a root.
     pub words: [i32; 32],
 }
 
