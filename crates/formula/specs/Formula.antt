@@ -180,6 +180,14 @@ odd-and-even :
 unfolding horner polynomialNumbers boundOf rounded roundedUp
 odd-and-even = (refl, refl, refl, refl, refl, refl)
 
+-- as many words as p, whatever q is, and no divisors
+words-and-divisors :
+    (wordCount Odd 2 3 ≡ 2)
+    × (wordCount Even 2 3 ≡ 2)
+    × (divisorsBy Odd 24 2 0 0 bend (pos 8388608) ≡ [])
+    × (divisorsBy Even 24 2 0 0 bend (pos 8388608) ≡ [])
+words-and-divisors = (refl, refl, refl, refl)
+
 -- 1 to 16 coefficients of each, as of a polynomial; and intervals below 0
 one-to-sixteen :
     (Counted Polynomial 1 0 0 × Counted Polynomial 16 0 0)
