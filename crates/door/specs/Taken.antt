@@ -43,18 +43,13 @@ takenWord (Word w) = w
 takenWord NoWord = pos 0
 takenWord NotFinite = pos 0
 
--- ---- worked examples. Half a step, 2^-25, is a tie: it goes upward, and so do -1/2 and -3/2 of a step
-half-a-step : takenOf 24 (fin false 1 (negsuc 24)) ≡ Word (pos 1)
+-- ---- worked examples. Half a step, 2^-25, is a tie, and so are -1/2 and -3/2 of a step: they go away from zero, as products do
+half-steps :
+    (takenOf 24 (fin false 1 (negsuc 24)) ≡ Word (pos 1))
+    × (takenOf 24 (fin true 1 (negsuc 24)) ≡ Word (negsuc 0))
+    × (takenOf 24 (fin true 3 (negsuc 24)) ≡ Word (negsuc 1))
 unfolding takenOf rounded
-half-a-step = refl
-
-half-a-step-below : takenOf 24 (fin true 1 (negsuc 24)) ≡ Word (pos 0)
-unfolding takenOf rounded
-half-a-step-below = refl
-
-three-halves-below : takenOf 24 (fin true 3 (negsuc 24)) ≡ Word (negsuc 0)
-unfolding takenOf rounded
-three-halves-below = refl
+half-steps = (refl, refl, refl)
 
 -- 1.5, by its bit pattern
 one-and-a-half : takenOf 24 (ofBits binary64 0x3ff8000000000000) ≡ Word (pos 25165824)
@@ -70,22 +65,16 @@ minus-zero : takenOf 24 (fin true 0 (pos 0)) ≡ Word (pos 0)
 unfolding takenOf rounded
 minus-zero = refl
 
--- the largest word, half a step below it and half a step above it; half a step below the least word
-at-largest : takenOf 24 (fin false 2147483647 (negsuc 23)) ≡ Word (pos 2147483647)
+-- the largest word, and the least; half a step nearer to zero each is taken for the word itself, half a step further out there is no word
+at-the-ends :
+    (takenOf 24 (fin false 2147483647 (negsuc 23)) ≡ Word (pos 2147483647))
+    × (takenOf 24 (fin true 2147483647 (negsuc 23)) ≡ Word (negsuc 2147483646))
+    × (takenOf 24 (fin false 4294967293 (negsuc 24)) ≡ Word (pos 2147483647))
+    × (takenOf 24 (fin true 4294967293 (negsuc 24)) ≡ Word (negsuc 2147483646))
+    × (takenOf 24 (fin false 4294967295 (negsuc 24)) ≡ NoWord)
+    × (takenOf 24 (fin true 4294967295 (negsuc 24)) ≡ NoWord)
 unfolding takenOf rounded
-at-largest = refl
-
-under-largest : takenOf 24 (fin false 4294967293 (negsuc 24)) ≡ Word (pos 2147483647)
-unfolding takenOf rounded
-under-largest = refl
-
-over-largest : takenOf 24 (fin false 4294967295 (negsuc 24)) ≡ NoWord
-unfolding takenOf rounded
-over-largest = refl
-
-under-least : takenOf 24 (fin true 4294967295 (negsuc 24)) ≡ Word (negsuc 2147483646)
-unfolding takenOf rounded
-under-least = refl
+at-the-ends = (refl, refl, refl, refl, refl, refl)
 
 -- a word has no refusal, and what is refused has no word
 with-word : (takenNumber (Word (pos 1)) ≡ 0) × (takenWord (Word (pos 1)) ≡ pos 1) × (takenWord NoWord ≡ pos 0) × (takenWord NotFinite ≡ pos 0) × (takenPlace NoWord ≡ 0)

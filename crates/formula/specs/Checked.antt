@@ -53,7 +53,7 @@ exponential = ones 12 ∷ ones 6 ∷ ones 1 ∷ ones 12 ∷ minus 100663296 ∷ 
 
 abbrev pub table : List Row
 table =
-    record { shape = polynomial 2; words = pos 0 ∷ pos 1 ∷ []; lo = minus 33554432; hi = ones 2; arguments = pos 8388608 ∷ minus 8388608 ∷ minus 25165824 ∷ []; answers = pos 1 ∷ pos 0 ∷ minus 1 ∷ []; refusal = 0 }
+    record { shape = polynomial 2; words = pos 0 ∷ pos 1 ∷ []; lo = minus 33554432; hi = ones 2; arguments = pos 8388608 ∷ minus 8388608 ∷ minus 25165824 ∷ []; answers = pos 1 ∷ minus 1 ∷ minus 2 ∷ []; refusal = 0 }
     ∷ record { shape = polynomial 3; words = ones 1 ∷ ones 1 ∷ pos 8388608 ∷ []; lo = minus 33554432; hi = ones 2; arguments = pos 8388608 ∷ []; answers = pos 27262976 ∷ []; refusal = 0 }
     ∷ record { shape = rational 3 3; words = exponential; lo = minus 16777216; hi = ones 1; arguments = pos 0 ∷ ones 1 ∷ minus 16777216 ∷ []; answers = pos 16777216 ∷ pos 45538158 ∷ pos 6181080 ∷ []; refusal = 0 }
     ∷ record { shape = rational 3 3; words = exponential; lo = minus 33554432; hi = ones 2; arguments = []; answers = []; refusal = 8 }

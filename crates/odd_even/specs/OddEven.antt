@@ -73,14 +73,10 @@ by-the-rounded-square : (evenOf 24 (pos 0 ∷ pos 33554432 ∷ []) (pos 2897) �
 unfolding horner rounded
 by-the-rounded-square = (refl, refl)
 
--- one step as an odd formula, at a half, at minus a half (a tie, upward) and at minus one and a half; as an even one it is a step everywhere
-one-step :
-    (oddOf 24 (pos 1 ∷ []) (pos 8388608) ≡ pos 1)
-    × (oddOf 24 (pos 1 ∷ []) (negsuc 8388607) ≡ pos 0)
-    × (oddOf 24 (pos 1 ∷ []) (negsuc 25165823) ≡ negsuc 0)
-    × (evenOf 24 (pos 1 ∷ []) (negsuc 25165823) ≡ pos 1)
+-- one coefficient: one as an odd formula is x, as an even one it is one everywhere
+one-coefficient : (oddOf 24 (pos 16777216 ∷ []) (negsuc 8388607) ≡ negsuc 8388607) × (evenOf 24 (pos 16777216 ∷ []) (negsuc 8388607) ≡ pos 16777216)
 unfolding horner rounded
-one-step = (refl, refl, refl, refl)
+one-coefficient = (refl, refl)
 
 -- the numbers on the way at a half: the square 1/4; -1/8, 7/8; the product of nothing, -1/2; of odd 7/16 before them
 bend-numbers :

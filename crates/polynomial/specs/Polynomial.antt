@@ -4,7 +4,7 @@ use mathlib.Core.Bool.{cond}
 use mathlib.Core.List.{List, [], _∷_}
 use Prim.Native.Nat.{ℕ, _+_, _<_, _≤_}
 use lib.Dec.{ltb}
-use lib.IntN.{ℤ, pos, negsuc, natAbs, _+ℤ_}
+use lib.IntN.{ℤ, pos, natAbs, _+ℤ_}
 use lib.ListN.{length, drop}
 use Rattle.word.specs.Rounded.{rounded, roundedUp}
 use Rattle.word.specs.Words.{largest, Word, Scale, productOf, boundProduct}
@@ -57,20 +57,7 @@ InRange s A ws = (k : ℕ) → bound s A (drop k ws) ≤ largest
 abbrev pub PolynomialReady : ℕ → List ℤ → ℤ → Type 0
 PolynomialReady s ws x = Scale s × Word x × (0 < length ws) × InRange s (natAbs x) ws
 
--- ---- worked examples. One step times x at a half, at minus a half (a tie, upward) and at minus one and a half
-a-half : horner 24 (pos 0 ∷ pos 1 ∷ []) (pos 8388608) ≡ pos 1
-unfolding horner rounded
-a-half = refl
-
-minus-a-half : horner 24 (pos 0 ∷ pos 1 ∷ []) (negsuc 8388607) ≡ pos 0
-unfolding horner rounded
-minus-a-half = refl
-
-minus-one-and-a-half : horner 24 (pos 0 ∷ pos 1 ∷ []) (negsuc 25165823) ≡ negsuc 0
-unfolding horner rounded
-minus-one-and-a-half = refl
-
--- 1 + x + x²/2 at a half: 1 5/8
+-- ---- worked examples. 1 + x + x²/2 at a half: 1 5/8
 parabola : horner 24 (pos 16777216 ∷ pos 16777216 ∷ pos 8388608 ∷ []) (pos 8388608) ≡ pos 27262976
 unfolding horner rounded
 parabola = refl

@@ -4,7 +4,7 @@
 use Rattle.whole.proofs.Basics.{_≡_, _∙_, refl, sym, ap, ap₂, subst, Bool, true, false, not, ℕ, suc, zero, _+_, _-_, _*_, _%_, _^_, _≤_, _<_, arith, T, ltb, leb, ℤ, pos, negsuc, natAbs, negℤ, _+ℤ_, _-ℤ_, _*ℤ_, _≤ℤ_, _<ℤ_, ltZ, SFits, toZ, ofZ, toZ-ofZ}
 use native.Mathlib.Nat.{add-mul-mod-self-left, mod-eq-of-lt}
 use lib.IntN.{+ℤ-idl}
-use lib.Signed.{nonNeg, yes-nonNeg, ltZ-no, mag, shrZ, quotZ, remZ, mag-shr, mag-rem}
+use lib.Signed.{nonNeg, yes-nonNeg, ltZ-no, mag, shrZ, quotZ, mag-shr}
 use mir.Syntax.{Width}
 use mir.Val.{Fits, bits, hbits}
 use mir.Facts.{sfits-lit, sfits-widen}
@@ -55,9 +55,6 @@ wider t h = cast h (sfits-widen t (h .fits))
 pub plus : {w : Width} {x y x′ y′ : ℤ} → Held w x y → Held w x′ y′ → SFits w (y +ℤ y′) → Held w (back w x +ℤ back w x′) (y +ℤ y′)
 plus h k f = record { eq = ap₂ _+ℤ_ (held h) (held k); fits = f }
 
-pub minus : {w : Width} {x y x′ y′ : ℤ} → Held w x y → Held w x′ y′ → SFits w (y -ℤ y′) → Held w (back w x -ℤ back w x′) (y -ℤ y′)
-minus h k f = record { eq = ap₂ _-ℤ_ (held h) (held k); fits = f }
-
 pub times : {w : Width} {x y x′ y′ : ℤ} → Held w x y → Held w x′ y′ → SFits w (y *ℤ y′) → Held w (back w x *ℤ back w x′) (y *ℤ y′)
 times h k f = record { eq = ap₂ _*ℤ_ (held h) (held k); fits = f }
 
@@ -66,9 +63,6 @@ shr {w} {x} {y} m h = record { eq = ap (λ (z : ℤ). shrZ z m) (held h); fits =
 
 pub quot : {w : Width} {x y x′ y′ : ℤ} → Held w x y → Held w x′ y′ → SFits w (quotZ y y′) → Held w (quotZ (back w x) (back w x′)) (quotZ y y′)
 quot h k f = record { eq = ap₂ quotZ (held h) (held k); fits = f }
-
-pub rem : {w : Width} {x y x′ y′ : ℤ} → Held w x y → Held w x′ y′ → Held w (remZ (back w x) (back w x′)) (remZ y y′)
-rem {w} {x} {y} {x′} {y′} h k = record { eq = ap₂ remZ (held h) (held k); fits = sfits-le (mag-rem y y′) (h .fits) }
 
 -- ---- what a division asks besides: that the divisor's bits are not 0, and that the quotient fits
 ofZ-pos : (w : Width) (z : ℤ) → SFits w z → 0 < natAbs z → 0 < ofZ w z

@@ -1,13 +1,17 @@
--- The laws of rounding: how near, how large, exact where it divides, where a tie goes, and that these determine the result.
--- All follow from two inequalities in the parts, `Nearest`. A change of the tie rule changes `lifted`, `Nearest`, `rounded-tie` and `rounded-determined`; the other laws keep their statements.
-use Rattle.whole.proofs.Basics.{_≡_, refl, sym, ℕ, _+_, _-_, _*_, _/_, _≤_, _<_, arith, ℤ, pos, natAbs, _+ℤ_, _-ℤ_, _*ℤ_, _≤ℤ_}
+-- The laws of rounding: odd, how near, how large, exact where it divides, where a tie goes, and that these determine the result. They are laws of
+-- naturals, carried to the numbers below zero. A change of the tie rule changes `rounded-odd`, `rounded-tie`, `rounded-determined` and what the
+-- functions use; the other laws keep their statements.
+use Rattle.whole.proofs.Basics.{_≡_, _∙_, refl, sym, ap, ℕ, suc, zero, _+_, _-_, _*_, _/_, _≤_, _<_, arith, ℤ, pos, negsuc, negℤ, natAbs, _+ℤ_, _-ℤ_, _*ℤ_}
 use native.Mathlib.Decide.{decLe}
-use native.Mathlib.Nat.{div-add-mod, mod-lt, mul-le-mul-left, le-of-mul-le-mul-left, lt-of-mul-lt-mul-left, mul-lt-mul-of-pos-left}
-use lib.Signed.{shrZ}
-use Rattle.whole.proofs.Diff.{Diff, P, N, v, n, _⊕_, _⊗_, _⊝_, same-out, size, near, abs-is, below, below-out}
-use Rattle.whole.proofs.Floor.{floor-of, floor-is}
-use Rattle.whole.proofs.Order.{abs-add}
-use Rattle.word.specs.Rounded.{lifted, rounded, roundedUp}
+use native.Mathlib.Nat.{div-add-mod, mod-lt, lt-of-mul-lt-mul-left}
+use lib.IntN.{negℤ-negℤ}
+use lib.Signed.{shrZ, quotZ}
+use Rattle.whole.proofs.Diff.{P, N, v, n, _⊕_, _⊗_, _⊝_, ⊖_, same, same-out, size}
+use Rattle.whole.proofs.Floor.{FloorOf, floor-of}
+use Rattle.whole.proofs.Order.{abs-neg}
+use Rattle.word.specs.Rounded.{halfUp, rounded, roundedUp}
+use Rattle.word.specs.Words.{NotZero, belowZero, withSign}
+use Rattle.word.proofs.HalfLaws.{half-low, half-high, half-is, half-zero, half-same, half-added}
 
 -- ---- rounded up
 pub up-above : (a d : ℕ) → 0 < d → a ≤ roundedUp a d * d
@@ -21,85 +25,123 @@ up-least a d k h f = omega (arith, lt-of-mul-lt-mul-left d {m = (a + (d - 1)) / 
 pub up-mono : (a b d : ℕ) → 0 < d → a ≤ b → roundedUp a d ≤ roundedUp b d
 up-mono a b d h f = up-least a d (roundedUp b d) h (omega (arith, up-above b d h))
 
--- ---- what is lifted
-pub lifted-most : (n : ℤ) (h : ℕ) → natAbs (lifted n h) ≤ natAbs n + h
-lifted-most n h = abs-add n (pos h)
+-- ---- rounded to the nearest is odd: the other sign gives the other sign
+pub rounded-odd : (m : ℤ) (d : ℕ) → rounded (negℤ m) d ≡ negℤ (rounded m d)
+unfolding rounded
+rounded-odd (pos zero) d = ap pos (half-zero d) ∙ sym (ap (λ (k : ℕ). negℤ (pos k)) (half-zero d))
+rounded-odd (pos (suc a)) d = refl
+rounded-odd (negsuc a) d = sym (negℤ-negℤ (pos (halfUp (suc a) d)))
 
--- ---- rounded to the nearest: 2·d·q ≤ 2·m + d < 2·d·q + 2·d, in the parts
-record Nearest (m : ℤ) (d : ℕ) (q : ℤ) : Type 0 where
-  low : 2 * (d * P q) + 2 * N m ≤ 2 * P m + d + 2 * (d * N q)
-  high : 2 * P m + d + 2 * (d * N q) < 2 * N m + 2 * (d * P q) + 2 * d
+-- so a law of all numbers is one of naturals
+natural : (a d q : ℕ) → 0 < d → 2 * (d * q) ≤ 2 * a + d → 2 * a + d < 2 * (d * q) + 2 * d → rounded (pos a) d ≡ pos q
+unfolding rounded
+natural a d q h f g = ap pos (half-is a d q h f g)
 
-doubled : (m : ℤ) (d : ℕ) → Diff (lifted (m +ℤ m) d)
-doubled m d = v m ⊕ v m ⊕ n d
-
-nearest-of : (m : ℤ) (d : ℕ) → 0 < d → Nearest m d (rounded m d)
-unfolding rounded doubled
-nearest-of m d h =
-    let f = floor-of (lifted (m +ℤ m) d) (d + d) (omega arith) in
-    record { low = omega (arith, f .low, doubled m d .is); high = omega (arith, f .high, doubled m d .is) }
-
-nearest-is : (m : ℤ) (d : ℕ) (q : ℤ) → 0 < d → Nearest m d q → rounded m d ≡ q
-unfolding rounded doubled
-nearest-is m d q h f = floor-is (lifted (m +ℤ m) d) (d + d) q (omega arith) (record { low = omega (arith, f .low, doubled m d .is); high = omega (arith, f .high, doubled m d .is) })
+from-odd : (a d : ℕ) (q : ℤ) → rounded (pos (suc a)) d ≡ negℤ q → rounded (negsuc a) d ≡ q
+unfolding rounded
+from-odd a d q e = ap negℤ e ∙ negℤ-negℤ q
 
 -- nearest: twice the distance is at most the divisor
 pub rounded-near : (m : ℤ) (d : ℕ) → 0 < d → 2 * natAbs (rounded m d *ℤ pos d -ℤ m) ≤ d
-rounded-near m d h =
-    let f = nearest-of m d h in
-    omega (arith, size (v (rounded m d) ⊗ n d ⊝ v m), f .low, f .high)
+unfolding rounded
+rounded-near (pos a) d h = omega (arith, size (n (halfUp a d) ⊗ n d ⊝ n a), half-low a d h, half-high a d h)
+rounded-near (negsuc a) d h = omega (arith, size (⊖ n (halfUp (suc a) d) ⊗ n d ⊝ v (negsuc a)), half-low (suc a) d h, half-high (suc a) d h)
 
--- what decides a tie: of the two nearest it is the one that is not below the fraction
-pub rounded-tie : (m : ℤ) (d : ℕ) → 0 < d → 2 * natAbs (rounded m d *ℤ pos d -ℤ m) ≡ d → m ≤ℤ (rounded m d *ℤ pos d)
-rounded-tie m d h e =
-    let f = nearest-of m d h in
-    below (v m) (v (rounded m d) ⊗ n d) (omega (arith, size (v (rounded m d) ⊗ n d ⊝ v m), f .low, f .high))
+-- what decides a tie: of the two nearest it is the one that is not nearer to zero than the fraction
+pub rounded-tie : (m : ℤ) (d : ℕ) → 0 < d → 2 * natAbs (rounded m d *ℤ pos d -ℤ m) ≡ d → natAbs m ≤ natAbs (rounded m d) * d
+unfolding rounded
+rounded-tie (pos a) d h e = omega (arith, size (n (halfUp a d) ⊗ n d ⊝ n a), half-low a d h, half-high a d h)
+rounded-tie (negsuc a) d h e = rw (abs-neg (pos (halfUp (suc a) d))) (omega (arith, size (⊖ n (halfUp (suc a) d) ⊗ n d ⊝ v (negsuc a)), half-low (suc a) d h, half-high (suc a) d h))
 
 -- these two determine it
-pub rounded-determined : (m : ℤ) (d : ℕ) (q : ℤ) → 0 < d → 2 * natAbs (q *ℤ pos d -ℤ m) ≤ d → (2 * natAbs (q *ℤ pos d -ℤ m) ≡ d → m ≤ℤ (q *ℤ pos d)) → rounded m d ≡ q
-rounded-determined m d q h f t = by (decLe d (2 * natAbs (q *ℤ pos d -ℤ m)))
+determined : (a d : ℕ) (q : ℤ) → 0 < d → 2 * natAbs (q *ℤ pos d -ℤ pos a) ≤ d → (2 * natAbs (q *ℤ pos d -ℤ pos a) ≡ d → a ≤ natAbs q * d) → rounded (pos a) d ≡ q
+determined a d (negsuc b) h f t = absurd (omega (arith, size (v (negsuc b) ⊗ n d ⊝ n a)))
+determined a d (pos b) h f t = by (decLe d (2 * natAbs (pos b *ℤ pos d -ℤ pos a)))
   where
-    by : Dec (d ≤ 2 * natAbs (q *ℤ pos d -ℤ m)) → rounded m d ≡ q
+    by : Dec (d ≤ 2 * natAbs (pos b *ℤ pos d -ℤ pos a)) → rounded (pos a) d ≡ pos b
     by (yes k) =
-        let e : 2 * natAbs (q *ℤ pos d -ℤ m) ≡ d = omega arith in
-        let g = below-out (v m) (v q ⊗ n d) (t e) in
-        nearest-is m d q h (record { low = omega (arith, size (v q ⊗ n d ⊝ v m)); high = omega (arith, size (v q ⊗ n d ⊝ v m)) })
-    by (no k) = nearest-is m d q h (record { low = omega (arith, size (v q ⊗ n d ⊝ v m)); high = omega (arith, size (v q ⊗ n d ⊝ v m)) })
+        let e : 2 * natAbs (pos b *ℤ pos d -ℤ pos a) ≡ d = omega arith in
+        let g = t e in
+        natural a d b h (omega (arith, size (n b ⊗ n d ⊝ n a))) (omega (arith, size (n b ⊗ n d ⊝ n a)))
+    by (no k) = natural a d b h (omega (arith, size (n b ⊗ n d ⊝ n a))) (omega (arith, size (n b ⊗ n d ⊝ n a)))
+
+mirrored : (q m : ℤ) (d : ℕ) → natAbs (negℤ q *ℤ pos d -ℤ negℤ m) ≡ natAbs (q *ℤ pos d -ℤ m)
+mirrored q m d = omega (arith, size (⊖ v q ⊗ n d ⊝ ⊖ v m), size (v q ⊗ n d ⊝ v m))
+
+pub rounded-determined : (m : ℤ) (d : ℕ) (q : ℤ) → 0 < d → 2 * natAbs (q *ℤ pos d -ℤ m) ≤ d → (2 * natAbs (q *ℤ pos d -ℤ m) ≡ d → natAbs m ≤ natAbs q * d) → rounded m d ≡ q
+rounded-determined (pos a) d q h f t = determined a d q h f t
+rounded-determined (negsuc a) d q h f t =
+    let e = mirrored q (negsuc a) d in
+    from-odd a d q (determined (suc a) d (negℤ q) h (omega (arith, e)) (λ k. rw (abs-neg q) (t (omega (arith, e)))))
 
 -- size: at most the fraction rounded up
+half-size : (a d : ℕ) → 0 < d → halfUp a d ≤ roundedUp a d
+half-size a d h = omega (arith, lt-of-mul-lt-mul-left (2 * d) {m = halfUp a d} {n = roundedUp a d + 1} (omega (arith, half-low a d h, up-above a d h)))
+
 pub rounded-size : (m : ℤ) (d : ℕ) → 0 < d → natAbs (rounded m d) ≤ roundedUp (natAbs m) d
-rounded-size m d h =
-    let f = nearest-of m d h in
-    let q = rounded m d in
-    let c = roundedUp (natAbs m) d in
-    let a = up-above (natAbs m) d h in
-    let x = lt-of-mul-lt-mul-left (2 * d) {m = P q} {n = N q + c + 1} (omega (arith, f .low, a, abs-is m)) in
-    let y = lt-of-mul-lt-mul-left (2 * d) {m = N q} {n = P q + c + 1} (omega (arith, f .high, a, abs-is m)) in
-    near (v q) c (omega arith)
+unfolding rounded
+rounded-size (pos a) d h = half-size a d h
+rounded-size (negsuc a) d h = rw (abs-neg (pos (halfUp (suc a) d))) (half-size (suc a) d h)
 
 -- exact where it divides
 pub rounded-exact : (k : ℤ) (d : ℕ) → 0 < d → rounded (k *ℤ pos d) d ≡ k
-rounded-exact k d h = nearest-is (k *ℤ pos d) d k h (record { low = omega (arith, (v k ⊗ n d) .is); high = omega (arith, (v k ⊗ n d) .is) })
+rounded-exact (pos a) d h = natural (a * d) d a h (omega arith) (omega arith)
+rounded-exact (negsuc a) d h = rounded-odd (pos (suc a * d)) d ∙ ap negℤ (natural (suc a * d) d (suc a) h (omega arith) (omega arith))
 
 -- it sees only the fraction's value
 pub rounded-same : (m : ℤ) (d : ℕ) (k : ℤ) (c : ℕ) → 0 < d → 0 < c → m *ℤ pos c ≡ k *ℤ pos d → rounded m d ≡ rounded k c
-rounded-same m d k c D C e =
-    let q = rounded k c in
-    let f = nearest-of k c C in
-    let g = same-out (v m ⊗ n c) (v k ⊗ n d) e in
-    nearest-is m d q D
-    (record {
-      low = le-of-mul-le-mul-left {k = c} (omega (arith, g, mul-le-mul-left d (f .low))) C;
-      high = lt-of-mul-lt-mul-left c (omega (arith, g, mul-lt-mul-of-pos-left (f .high) D));
-    })
-
--- for the functions: what is lifted and rounded down is rounded, by a divisor with a half, and by any with both doubled
-pub shifted-is : (m : ℤ) (h d : ℕ) → 0 < d → 2 * h ≡ d → shrZ (lifted m h) d ≡ rounded m d
-shifted-is m h d f e =
-    let g = floor-of (lifted m h) d f in
-    let r = (v m ⊕ n h) .is in
-    sym (nearest-is m d (shrZ (lifted m h) d) f (record { low = omega arith; high = omega arith }))
-
-pub divided-is : (m : ℤ) (d : ℕ) → shrZ (lifted (m +ℤ m) d) (d + d) ≡ rounded m d
 unfolding rounded
-divided-is m d = refl
+rounded-same (pos a) d (pos b) c D C e = ap pos (half-same a d b c D C (omega (arith, same-out (n a ⊗ n c) (n b ⊗ n d) e)))
+rounded-same (pos a) d (negsuc b) c D C e = absurd (omega (arith, same-out (n a ⊗ n c) (v (negsuc b) ⊗ n d) e))
+rounded-same (negsuc a) d (pos b) c D C e = absurd (omega (arith, same-out (v (negsuc a) ⊗ n c) (n b ⊗ n d) e))
+rounded-same (negsuc a) d (negsuc b) c D C e = ap (λ (k : ℕ). negℤ (pos k)) (half-same (suc a) d (suc b) c D C (omega (arith, same-out (v (negsuc a) ⊗ n c) (v (negsuc b) ⊗ n d) e)))
+
+-- ---- for the function that shifts, and so rounds down: half of the divisor is added first, and below zero one less
+abbrev pub lower : ℤ → ℤ
+lower (pos a) = pos 0
+lower (negsuc a) = negsuc 0
+
+pub lower-most : (m : ℤ) → natAbs (lower m) ≤ 1
+lower-most (pos a) = omega arith
+lower-most (negsuc a) = omega arith
+
+none : (a k : ℕ) → a < k → a / k ≡ 0
+none a k h = omega (arith, lt-of-mul-lt-mul-left k {m = a / k} {n = 1} (omega (arith, div-add-mod a k)))
+
+-- a shift of every digit but the sign's
+pub lower-is : (m : ℤ) (k : ℕ) → natAbs m < k → shrZ m k ≡ lower m
+lower-is (pos a) k h = ap pos (none a k h)
+lower-is (negsuc a) k h = ap negsuc (none a k (omega arith))
+
+pub shifted-is : (m : ℤ) (h d : ℕ) → 0 < d → 2 * h ≡ d → shrZ (m +ℤ lower m +ℤ pos h) d ≡ rounded m d
+shifted-is (pos a) h d f e = sym (at (shrZ z d) (floor-of z d f))
+  where
+    z : ℤ
+    z = pos a +ℤ pos 0 +ℤ pos h
+
+    at : (q : ℤ) → FloorOf z d q → rounded (pos a) d ≡ q
+    at (pos k) g = natural a d k f (omega (arith, g .low, (n a ⊕ n 0 ⊕ n h) .is)) (omega (arith, g .high, (n a ⊕ n 0 ⊕ n h) .is))
+    at (negsuc k) g = absurd (omega (arith, g .high, (n a ⊕ n 0 ⊕ n h) .is))
+shifted-is (negsuc a) h d f e = sym (at (shrZ z d) (floor-of z d f))
+  where
+    z : ℤ
+    z = negsuc a +ℤ negsuc 0 +ℤ pos h
+
+    at : (q : ℤ) → FloorOf z d q → rounded (negsuc a) d ≡ q
+    at (pos zero) g = from-odd a d (pos 0) (natural (suc a) d 0 f (omega arith) (omega (arith, g .low, g .high, (v (negsuc a) ⊕ v (negsuc 0) ⊕ n h) .is)))
+    at (pos (suc k)) g = absurd (omega (arith, g .low, (v (negsuc a) ⊕ v (negsuc 0) ⊕ n h) .is))
+    at (negsuc k) g = from-odd a d (negsuc k) (natural (suc a) d (suc k) f (omega (arith, g .high, (v (negsuc a) ⊕ v (negsuc 0) ⊕ n h) .is)) (omega (arith, g .low, (v (negsuc a) ⊕ v (negsuc 0) ⊕ n h) .is)))
+
+-- ---- for the function that divides, and so rounds towards zero: half of the divisor's size is added away from zero first
+further : (a h : ℕ) → negsuc a +ℤ negℤ (pos h) ≡ negsuc (a + h)
+further a h = same (v (negsuc a) ⊕ ⊖ n h) (v (negsuc (a + h))) (omega arith)
+
+half-further : (a d : ℕ) → 0 < d → suc (a + d / 2) / d ≡ halfUp (suc a) d
+half-further a d h = let e : suc (a + d / 2) ≡ suc a + d / 2 = omega arith in ap (λ (k : ℕ). k / d) e ∙ half-added (suc a) d h
+
+pub divided-is : (m d : ℤ) → NotZero d → quotZ (m +ℤ withSign (belowZero m) (pos (natAbs d / 2))) d ≡ rounded (withSign (belowZero d) m) (natAbs d)
+unfolding rounded
+divided-is (pos a) (pos b) h = ap pos (half-added a b h)
+divided-is (pos a) (negsuc b) h = ap (λ (k : ℕ). negℤ (pos k)) (half-added a (suc b) h) ∙ sym (rounded-odd (pos a) (suc b))
+divided-is (negsuc a) (pos b) h = ap (λ (z : ℤ). quotZ z (pos b)) (further a (b / 2)) ∙ ap (λ (k : ℕ). negℤ (pos k)) (half-further a b h)
+divided-is (negsuc a) (negsuc b) h = ap (λ (z : ℤ). quotZ z (negsuc b)) (further a (suc b / 2)) ∙ ap pos (half-further a (suc b) h)

@@ -1,17 +1,22 @@
 -- The laws of the sign, by its two cases: what it leaves of a number, and that a number is its size with its sign put back.
-use Rattle.whole.proofs.Basics.{_≡_, refl, Bool, true, false, ℕ, suc, arith, ℤ, pos, negsuc, natAbs, _-ℤ_, _*ℤ_, _≤ℤ_, _<ℤ_}
-use lib.Signed.{clashℤ}
+use Rattle.whole.proofs.Basics.{_≡_, refl, sym, Bool, true, false, ℕ, suc, zero, _*_, _<_, arith, ℤ, pos, negsuc, negℤ, natAbs, _-ℤ_, _*ℤ_, ltZ}
+use borrow.Author.Tests.{lt-leb}
 use Rattle.whole.proofs.Diff.{v, n, _⊗_, _⊝_, ⊖_, same, size}
-use Rattle.whole.proofs.Order.{pos-le, abs-neg}
+use Rattle.whole.proofs.Order.{abs-neg}
 use Rattle.word.specs.Words.{belowZero, withSign}
 
-pub below-yes : (z : ℤ) → z <ℤ pos 0 → belowZero z ≡ true
-below-yes (pos k) h = absurd (clashℤ h (pos-le (omega arith)))
-below-yes (negsuc k) h = refl
+-- a test for a sign, and that scaling keeps it
+pub below-is : (z : ℤ) → ltZ z (pos 0) ≡ belowZero z
+below-is (pos k) = lt-leb (suc k) 0 (omega arith)
+below-is (negsuc k) = refl
 
-pub below-no : (z : ℤ) → pos 0 ≤ℤ z → belowZero z ≡ false
-below-no (pos k) h = refl
-below-no (negsuc k) h = absurd (h .le)
+below-negated : (k : ℕ) → 0 < k → belowZero (negℤ (pos k)) ≡ true
+below-negated zero h = absurd (omega arith)
+below-negated (suc k) h = refl
+
+pub below-scaled : (z : ℤ) (k : ℕ) → 0 < k → belowZero z ≡ belowZero (z *ℤ pos k)
+below-scaled (pos a) k h = refl
+below-scaled (negsuc a) k h = sym (below-negated (suc a * k) (omega arith))
 
 pub sign-abs : (t : Bool) (z : ℤ) → natAbs (withSign t z) ≡ natAbs z
 sign-abs true z = abs-neg z

@@ -84,27 +84,19 @@ too-few h = omega (arith, h .least)
 too-many : Scale 29 → ⊥
 too-many h = omega (arith, h .most)
 
--- a half of one step, of each sign, is a tie
-half-a-step : productOf 24 (pos 1) (pos 8388608) ≡ pos 1
+-- a third, and a third by a negative divisor
+third : (quotientOf 24 (pos 16777216) (pos 50331648) ≡ pos 5592405) × (quotientOf 24 (pos 16777216) (negsuc 50331647) ≡ negsuc 5592404)
 unfolding rounded
-half-a-step = refl
+third = (refl, refl)
 
-half-a-step-below : productOf 24 (pos 1) (negsuc 8388607) ≡ pos 0
+-- one step by two is a tie, whatever the signs
+half-a-step :
+    (quotientOf 24 (pos 1) (pos 33554432) ≡ pos 1)
+    × (quotientOf 24 (pos 1) (negsuc 33554431) ≡ negsuc 0)
+    × (quotientOf 24 (negsuc 0) (pos 33554432) ≡ negsuc 0)
+    × (quotientOf 24 (negsuc 0) (negsuc 33554431) ≡ pos 1)
 unfolding rounded
-half-a-step-below = refl
-
--- a third, and a third by a negative divisor; 1 step by -2 is a tie
-third : quotientOf 24 (pos 16777216) (pos 50331648) ≡ pos 5592405
-unfolding rounded
-third = refl
-
-third-below : quotientOf 24 (pos 16777216) (negsuc 50331647) ≡ negsuc 5592404
-unfolding rounded
-third-below = refl
-
-half-below : quotientOf 24 (pos 1) (negsuc 33554431) ≡ pos 0
-unfolding rounded
-half-below = refl
+half-a-step = (refl, refl, refl, refl)
 
 -- a bound goes up
 a-step-more : boundProduct 24 1 1 ≡ 1

@@ -2,8 +2,8 @@
 ghost use mathlib.Core.Path.{_≡_};
 ghost use Prim.Native.Nat.{_*_, _<_, _≤_, _^_};
 ghost use lib.IntN.{natAbs, _*ℤ_};
-ghost use Rattle.word.specs.Rounded.{lifted, rounded};
-ghost use Rattle.word.specs.Words.{largest, Scale, Factors, Division, unit, withSign, productOf, quotientOf, boundProduct, boundQuotient};
+ghost use Rattle.word.specs.Rounded.{rounded};
+ghost use Rattle.word.specs.Words.{Scale, Factors, Division, unit, withSign, productOf, quotientOf, boundProduct, boundQuotient};
 
 // M, the largest word.
 pub const LARGEST: u64 = 2147483647;
@@ -50,32 +50,13 @@ pub fn scaled(a: u32, s: u32) -> u64
     (a as u64) << (s as u64)
 }
 
-// What is rounded down in place of n, where `half` is half of the divisor. Nothing else decides where a tie goes.
-fn lifted(n: i64, half: u64) -> i64
-    requires { ⌜ (natAbs n < 2 ^ 62) × (half < 2 ^ 62) ⌝ }
-    ensures { λ r. ⌜ r ≡ lifted n half ⌝ }
-{
-    n + (half as i64)
-}
-
-// n / 2^cut, rounded: the shift rounds down.
+// n / 2^cut, rounded. The shift rounds down, so half of the divisor is added first, and below zero one less: there `n >> 63` is -1, else 0.
 pub fn rounded_shift(n: i64, cut: u32) -> i64
     requires { ⌜ (natAbs n < 2 ^ 62) × (0 < cut) × (cut < 63) ⌝ }
     ensures { λ r. ⌜ r ≡ rounded n (2 ^ cut) ⌝ }
 {
-    lifted(n, power_of_two(cut - 1)) >> (cut as i64)
-}
-
-// m / d, rounded. Division truncates towards zero, so a negative remainder takes one more off.
-// The sum `d + d` is one of 32 bits, which tells the compiler that the divisor is short.
-fn nearest(m: i64, d: u32) -> i64
-    requires { ⌜ (0 < d) × (d ≤ largest) × (natAbs m ≤ 2 ^ 60) ⌝ }
-    ensures { λ r. ⌜ r ≡ rounded m d ⌝ }
-{
-    let t = lifted(m + m, d as u64);
-    let w = (d + d) as i64;
-    let q = t / w;
-    if t % w < 0 { q - 1 } else { q }
+    let half = power_of_two(cut - 1) as i64;
+    (n + (n >> 63) + half) >> (cut as i64)
 }
 
 pub fn product(a: i32, b: i32, s: u32) -> i64
@@ -85,17 +66,14 @@ pub fn product(a: i32, b: i32, s: u32) -> i64
     rounded_shift(times(a as i64, b as i64), s)
 }
 
-// The divisor's sign goes to the numerator. There is a call for each sign, since one branch costs less than two choices.
+// The division rounds towards zero, so half of the divisor's size is added first, with the dividend's sign.
 pub fn quotient(a: i32, d: i32, s: u32) -> i64
     requires { ⌜ Division s a d ⌝ }
     ensures { λ r. ⌜ r ≡ quotientOf s a d ⌝ }
 {
     let m = (a as i64) << (s as i64);
-    if d < 0 {
-        nearest(with_sign(true, m), magnitude(d))
-    } else {
-        nearest(m, magnitude(d))
-    }
+    let half = with_sign(a < 0, (magnitude(d) / 2) as i64);
+    (m + half) / (d as i64)
 }
 
 // The first factor is the size of a 32-bit pattern at most, so that the product fits.

@@ -1,80 +1,85 @@
--- `word::quotient` meets its contract: the divisor's sign goes to the scaled numerator, and `nearest` divides by the divisor's size.
-use Rattle.whole.proofs.Basics.{_≡_, _∙_, sym, ap, ap₂, Bool, _*_, _%_, _^_, _<_, arith, ℤ, pos, natAbs, _*ℤ_, w32, w64, toZ, ofZ, needs}
+-- `word::quotient` meets its contract: the scaled dividend and half of the divisor's size are what `divided-is` speaks of, and nothing wraps.
+use Rattle.whole.proofs.Basics.{_≡_, _∙_, ap, ap₂, ℕ, _*_, _/_, _%_, _^_, _≤_, _<_, arith, ℤ, pos, natAbs, _+ℤ_, _*ℤ_, w32, w64, toZ, ofZ, ltZ, needs}
 use lib.Pow.{pow-pos}
-use Rattle.whole.proofs.Fit.{fit-abs}
-use Rattle.whole.proofs.Held.{back, Held, fits-code, held, held-nat, arg, given, lit, wider, shl, tested-lt, tested-ge}
-use Rattle.whole.proofs.Order.{abs-mul}
-use Rattle.word.specs.Rounded.{rounded}
+use lib.Signed.{quotZ}
+use Rattle.whole.proofs.Diff.{n}
+use Rattle.whole.proofs.Fit.{fit, fit-abs}
+use Rattle.whole.proofs.Held.{back, Held, fits-code, held, held-nat, arg, known, wider, shl, quot, divisor, quot-fits}
+use Rattle.whole.proofs.Order.{abs-add, abs-mul}
 use Rattle.word.specs.Words.{belowZero, withSign}
-use Rattle.word.proofs.SignLaws.{below-yes, below-no, sign-abs}
+use Rattle.word.proofs.RoundedLaws.{divided-is}
+use Rattle.word.proofs.SignLaws.{below-is, below-scaled, sign-abs}
 use Rattle.word.proofs.WordLaws.{scaled-most}
 use Rattle.word.proofs.quotient.Statement.{statement}
 use Rattle.word.proofs.quotient.Tie as tie
 
+-- ---- what the locals hold
 module _ (c : tie.Start) where
+  abbrev a : ℤ
+  a = c .args .a
+
   abbrev d : ℤ
   d = c .args .d
 
-  abbrev m : ℤ
-  m = c .args .a *ℤ pos (2 ^ c .args .s)
+  abbrev u : ℕ
+  u = 2 ^ c .args .s
 
-  held-a : Held w64 (back w32 (c .args .a)) (c .args .a)
+  abbrev m : ℤ
+  m = a *ℤ pos u
+
+  held-a : Held w64 (back w32 a) a
   held-a = wider tt (arg (c .fits .a))
 
+  held-d : Held w64 (back w32 d) d
+  held-d = wider tt (arg (c .fits .d))
+
   m-most : natAbs m < 2 ^ 60
-  m-most = omega (arith, abs-mul (c .args .a) (pos (2 ^ c .args .s)), scaled-most (natAbs (c .args .a)) (c .args .s) (omega (arith, c .pre .1)) (c .pre .0 .most))
+  m-most = omega (arith, abs-mul a (pos u), scaled-most (natAbs a) (c .args .s) (omega (arith, c .pre .1)) (c .pre .0 .most))
 
-  m-is : toZ w64 (ofZ w64 (back w32 (c .args .a)) * 2 ^ c .args .s % 2 ^ 64) ≡ m
-  m-is = shl (2 ^ c .args .s) (pow-pos (c .args .s)) held-a (fit-abs (omega (arith, m-most)))
+  m-is : toZ w64 (ofZ w64 (back w32 a) * u % 2 ^ 64) ≡ m
+  m-is = shl u (pow-pos (c .args .s)) held-a (fit-abs (omega (arith, m-most)))
 
--- ---- the numerator with the divisor's sign, below zero and not
-negated-is : (c : tie.After-with-sign) → back w64 (c .with-sign .result) ≡ withSign (belowZero (d (c .before .before))) (m (c .before .before))
-negated-is c =
-    let b = c .before in
-    let s = b .before in
-    held (given {w = w64} {x = c .with-sign .result} (c .with-sign .ok))
-    ∙ c .with-sign .ensures
-    ∙ ap₂ withSign (sym (below-yes (d s) (tested-lt (arg (s .fits .d)) (lit (pos 0) tt) (b .if1 .taken)))) (m-is s)
+  -- half of the divisor's size, with the dividend's sign
+  abbrev half : ℤ
+  half = withSign (belowZero m) (pos (natAbs d / 2))
 
-kept-is : (c : tie.Else1) → m (c .before) ≡ withSign (belowZero (d (c .before))) (m (c .before))
-kept-is c =
-    let s = c .before in
-    ap (λ (t : Bool). withSign t (m s)) (sym (below-no (d s) (tested-ge (arg (s .fits .d)) (lit (pos 0) tt) (c .if1 .left))))
+  half-most : natAbs half < 2 ^ 31
+  half-most = omega (arith, sign-abs (belowZero m) (pos (natAbs d / 2)), c .pre .2)
+
+  sum-most : natAbs (m +ℤ half) < 2 ^ 61
+  sum-most = omega (arith, abs-add m half, m-most, half-most)
+
+module _ (c : tie.After-magnitude) where
+  abbrev size : ℕ
+  size = c .magnitude .result / 2
+
+  held-size : Held w64 (pos size) (pos (natAbs (d (c .before)) / 2))
+  held-size =
+      let e = c .magnitude .ensures ∙ held-nat (arg (c .before .fits .d)) in
+      known (ap (λ (k : ℕ). pos (k / 2)) e) (fit (n (natAbs (d (c .before)) / 2)) (omega (arith, c .before .pre .2)))
+
+module _ (c : tie.After-with-sign) where
+  abbrev start : tie.Start
+  start = c .before .before
+
+  sign-is : ltZ (back w32 (a start)) (pos 0) ≡ belowZero (m start)
+  sign-is = ap (λ (z : ℤ). ltZ z (pos 0)) (held (arg (start .fits .a))) ∙ below-is (a start) ∙ below-scaled (a start) (u start) (pow-pos (start .args .s))
+
+  held-half : Held w64 (c .with-sign .result) (half start)
+  held-half = known (c .with-sign .ensures ∙ ap₂ withSign sign-is (held (held-size (c .before)))) (fit-abs (omega (arith, half-most start)))
+
+  held-sum : Held w64 (toZ w64 (ofZ w64 (back w32 (a start)) * u start % 2 ^ 64) +ℤ back w64 (c .with-sign .result)) (m start +ℤ half start)
+  held-sum = known (ap₂ _+ℤ_ (m-is start) (held held-half)) (fit-abs (omega (arith, sum-most start)))
+
+  held-quotient : Held w64 (quotZ (back w64 (toZ w64 (ofZ w64 (back w32 (a start)) * u start % 2 ^ 64) +ℤ back w64 (c .with-sign .result))) (back w64 (back w32 (d start)))) (quotZ (m start +ℤ half start) (d start))
+  held-quotient = quot held-sum (held-d start) (quot-fits (m start +ℤ half start) (d start) (omega (arith, sum-most start)))
 
 -- ---- the needs
 with-sign-requires : tie.Need-with-sign-requires
-with-sign-requires c κs = omega (arith, ap natAbs (m-is (c .before)), m-most (c .before))
-
-nearest-requires : tie.Need-nearest-requires
-nearest-requires c κs =
-    let s = c .before .before .before in (
-      omega (arith, c .magnitude .ensures, held-nat (arg (s .fits .d)), s .pre .3),
-      omega (arith, c .magnitude .ensures, held-nat (arg (s .fits .d)), s .pre .2),
-      omega (arith, ap natAbs (negated-is (c .before)), sign-abs (belowZero (d s)) (m s), m-most s),
-    )
-
-nearest-requires-2 : tie.Need-nearest-requires-2
-nearest-requires-2 c κs =
-    let s = c .before .before in (
-      omega (arith, c .magnitude2 .ensures, held-nat (arg (s .fits .d)), s .pre .3),
-      omega (arith, c .magnitude2 .ensures, held-nat (arg (s .fits .d)), s .pre .2),
-      omega (arith, ap natAbs (m-is s), m-most s),
-    )
+with-sign-requires c κs = omega (arith, held-nat (held-size c), c .before .pre .2)
 
 returns : tie.Need-returns
-returns c =
-    let b = c .before in
-    held (given {w = w64} {x = c .nearest .result} (c .nearest .ok))
-    ∙ c .nearest .ensures
-    ∙ ap₂ rounded (negated-is (b .before)) (b .magnitude .ensures ∙ held-nat (arg (b .before .before .before .fits .d)))
-
-returns-2 : tie.Need-returns-2
-returns-2 c =
-    let b = c .before in
-    let s = b .before .before in
-    held (given {w = w64} {x = c .nearest2 .result} (c .nearest2 .ok))
-    ∙ c .nearest2 .ensures
-    ∙ ap₂ rounded (m-is s ∙ kept-is (b .before)) (b .magnitude2 .ensures ∙ held-nat (arg (s .fits .d)))
+returns c = held (held-quotient c) ∙ divided-is (m (start c)) (d (start c)) (start c .pre .3)
 
 pub quotient-spec : {M : Type 1} → statement M
 quotient-spec =
@@ -83,10 +88,10 @@ quotient-spec =
     (λ c. fits-code (held-a c))
     (λ c. search needs)
     (λ c. search needs)
+    (λ c κs. search needs)
+    (λ c. search needs)
     with-sign-requires
-    (λ c κs. search needs)
-    nearest-requires
-    (λ c κs. search needs)
-    nearest-requires-2
-    returns
-    returns-2)
+    (λ c. fits-code (held-sum c))
+    (λ c. fits-code (held-d (start c)))
+    (λ c. (divisor (held-d (start c)) (start c .pre .3), fits-code (held-quotient c)))
+    returns)

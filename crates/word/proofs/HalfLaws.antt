@@ -1,0 +1,31 @@
+-- The laws of naturals that are rounded to the nearest: the result is the one q with 2·d·q ≤ 2·a + d < 2·d·q + 2·d.
+use Rattle.whole.proofs.Basics.{_≡_, refl, sym, ℕ, suc, zero, _+_, _*_, _/_, _≤_, _<_, arith}
+use native.Mathlib.Nat.{div-add-mod, mod-lt, mul-le-mul-left, le-of-mul-le-mul-left, lt-of-mul-lt-mul-left, mul-lt-mul-of-pos-left}
+use Rattle.word.specs.Rounded.{halfUp}
+
+pub half-low : (a d : ℕ) → 0 < d → 2 * (d * halfUp a d) ≤ 2 * a + d
+half-low a d h = omega (arith, div-add-mod (a + a + d) (d + d))
+
+pub half-high : (a d : ℕ) → 0 < d → 2 * a + d < 2 * (d * halfUp a d) + 2 * d
+half-high a d h = omega (arith, div-add-mod (a + a + d) (d + d), mod-lt (a + a + d) {m = d + d} (omega arith))
+
+pub half-is : (a d q : ℕ) → 0 < d → 2 * (d * q) ≤ 2 * a + d → 2 * a + d < 2 * (d * q) + 2 * d → halfUp a d ≡ q
+half-is a d q h f g =
+    let x = lt-of-mul-lt-mul-left (2 * d) {m = q} {n = halfUp a d + 1} (omega (arith, half-high a d h)) in
+    let y = lt-of-mul-lt-mul-left (2 * d) {m = halfUp a d} {n = q + 1} (omega (arith, half-low a d h)) in
+    omega arith
+
+pub half-zero : (d : ℕ) → halfUp 0 d ≡ 0
+half-zero zero = refl
+half-zero (suc d) = half-is 0 (suc d) 0 (omega arith) (omega arith) (omega arith)
+
+-- it sees only the fraction's value
+pub half-same : (a d b c : ℕ) → 0 < d → 0 < c → a * c ≡ b * d → halfUp a d ≡ halfUp b c
+half-same a d b c D C e =
+    half-is a d (halfUp b c) D
+    (le-of-mul-le-mul-left {k = c} (omega (arith, mul-le-mul-left d (half-low b c C))) C)
+    (lt-of-mul-lt-mul-left c (omega (arith, mul-lt-mul-of-pos-left (half-high b c C) D)))
+
+-- as a division works it out: half of the divisor is added first. It may be rounded down, for by an odd divisor there is no tie
+pub half-added : (a d : ℕ) → 0 < d → (a + d / 2) / d ≡ halfUp a d
+half-added a d h = sym (half-is a d ((a + d / 2) / d) h (omega (arith, div-add-mod (a + d / 2) d)) (omega (arith, div-add-mod (a + d / 2) d, mod-lt (a + d / 2) h)))
