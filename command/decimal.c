@@ -1,31 +1,19 @@
 /* Words as decimals, and decimals as words. A step is 2^-24; half a step has 25 decimal places, so that the first 25 places of a
-   decimal, and whether anything follows them, settle how it is rounded. */
+   decimal settle how it is rounded. */
 #include <string.h>
 #include "decimal.h"
 
 enum { BINARY_PLACES = 24, DECIMAL_PLACES = 25, MOST_WORD = 2147483647, ONE = 1 << BINARY_PLACES };
 
-/* The first decimal places of a number below one. */
-typedef struct {
-    unsigned char digit[DECIMAL_PLACES];
-    int more;                          /* whether anything but zeros follows */
-} places;
-
-/* Doubles 0.digits, and gives the one that passes the point, or 0. */
-static uint64_t doubled(places *f) {
+/* Doubles the number below one that has these decimal places, and gives the one that passes the point, or 0. */
+static uint64_t doubled(unsigned char places[DECIMAL_PLACES]) {
     unsigned carry = 0;
     for (int i = DECIMAL_PLACES; i-- > 0;) {
-        unsigned twice = 2 * f->digit[i] + carry;
+        unsigned twice = 2 * places[i] + carry;
         carry = twice >= 10;
-        f->digit[i] = (unsigned char)(twice % 10);
+        places[i] = (unsigned char)(twice % 10);
     }
     return carry;
-}
-
-static int is_zero(const places *f) {
-    for (int i = 0; i < DECIMAL_PLACES; i++)
-        if (f->digit[i]) return 0;
-    return !f->more;
 }
 
 /* The digits at the start of a text. A number above every word stays above every word, and no more is said of it. */
@@ -36,22 +24,20 @@ static const char *whole_number(const char *text, uint64_t *number) {
 }
 
 /* The point at the start of a text and the digits behind it, or nothing. */
-static const char *decimal_places(const char *text, places *f) {
-    memset(f, 0, sizeof *f);
+static const char *decimal_places(const char *text, unsigned char places[DECIMAL_PLACES]) {
+    memset(places, 0, DECIMAL_PLACES);
     if (*text != '.') return text;
     text++;
-    for (int i = 0; *text >= '0' && *text <= '9'; text++, i++) {
-        if (i < DECIMAL_PLACES) f->digit[i] = (unsigned char)(*text - '0');
-        else if (*text != '0') f->more = 1;
-    }
+    for (int i = 0; *text >= '0' && *text <= '9'; text++, i++)
+        if (i < DECIMAL_PLACES) places[i] = (unsigned char)(*text - '0');
     return text;
 }
 
-/* The nearest whole number of steps, without the sign; a tie goes upward, which for a negative number is towards zero. */
-static uint64_t steps(uint64_t whole, places *f, int negative) {
+/* The nearest whole number of steps, without the sign; so a tie goes up. */
+static uint64_t steps(uint64_t whole, unsigned char places[DECIMAL_PLACES]) {
     uint64_t count = whole;
-    for (int i = 0; i < BINARY_PLACES; i++) count = 2 * count + doubled(f);
-    return doubled(f) && (!negative || !is_zero(f)) ? count + 1 : count;
+    for (int i = 0; i < BINARY_PLACES; i++) count = 2 * count + doubled(places);
+    return count + doubled(places);
 }
 
 static int32_t word_of(uint64_t count, int negative) {
@@ -68,11 +54,11 @@ int word_from(const char *text, int32_t *word) {
         *word = word_of(whole, negative);
         return 1;
     }
-    places f;
-    const char *end = decimal_places(point, &f);
+    unsigned char places[DECIMAL_PLACES];
+    const char *end = decimal_places(point, places);
     int digits = (int)(end - text) - (*point == '.');
     if (*end || digits == 0) return 0;
-    *word = word_of(steps(whole, &f, negative), negative);
+    *word = word_of(steps(whole, places), negative);
     return 1;
 }
 

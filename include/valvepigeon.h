@@ -27,9 +27,9 @@ extern "C" {
 
 /* The version: 10000 times the first number, 100 times the second, and the third. The first moves when programs have to be
    compiled anew (a struct or a function is not as it was), and the shared library's name moves with it; the second when something
-   is added, as a kind or a refusal; the third when neither is so. */
-#define VP_VERSION 10100
-#define VP_VERSION_STRING "1.1.0"
+   is added, as a kind or a refusal, or an answer changes; the third when nothing of this is so. */
+#define VP_VERSION 10200
+#define VP_VERSION_STRING "1.2.0"
 
 /* Sizes: the most bytes of a record, the bytes that a sheet adds to its run of records, and the most formulas of a sheet. */
 #define VP_LONGEST_RECORD 120
@@ -74,7 +74,8 @@ extern "C" {
    even          coefficients, 1 to 16        -                     -       c0, c1, c2, ..., of 1, x^2, x^4, ...
 
    With s the product of the argument x with itself, an even formula's answer is that of the polynomial c0, c1, ... at s, and an
-   odd one's the product of that word and x. */
+   odd one's the product of that word and x. Where -x lies in the interval too, an even formula gives the same word there, and an
+   odd one exactly the negated word. */
 typedef struct {
     uint16_t kind, number;
     int32_t lo, hi;
@@ -131,7 +132,7 @@ vp_counted vp_count(const uint8_t *sheet, size_t length);
 vp_found vp_formula(const uint8_t *sheet, size_t length, uint16_t number);
 
 /* What the sheet's formula of that number answers at `argument`, a word: the word that the rule on paper gives, step by step,
-   each product and quotient rounded to the nearest whole number, a tie going upward. Refusals 1 to 9, then 11, 10. */
+   each product and quotient rounded to the nearest whole number, a tie going away from zero. Refusals 1 to 9, then 11, 10. */
 vp_worked vp_evaluate(const uint8_t *sheet, size_t length, uint16_t number, int32_t argument);
 
 /* The same for a double. The argument's exact value times 2^24 is rounded as a product is; where the rounded value is no word

@@ -39,7 +39,9 @@ def shown(word, as_words):
 def word_of(text):
     if text.endswith("w"):
         return int(text[:-1])
-    return floor(Fraction(text) * ONE + Fraction(1, 2))
+    value = Fraction(text)
+    size = floor(abs(value) * ONE + Fraction(1, 2))  # a tie: away from zero
+    return -size if value < 0 else size
 
 
 def answered(content, number, text, as_words):
@@ -82,20 +84,24 @@ TYPED = [
     "2147483648w", "-2147483648w", "99999999999999999999999w", "128", "-128",
     "127.99999998", "4294967296", "99999999999999999999999999.5",
 ] + [
-    # one half step and its odd multiples, exactly, and just beside them
+    # one half step and its odd multiples, up to those on either side of the
+    # largest word, exactly, and just beside them
     sign + decimal(multiple * HALF_STEP) + tail
-    for multiple in (1, 3, 2 * ONE + 1) for sign in ("", "-")
-    for tail in ("", "0", "0" * 40 + "1")
+    for multiple in (1, 3, 2 * ONE + 1, 2 * M - 1, 2 * M + 1)
+    for sign in ("", "-") for tail in ("", "0", "0" * 40 + "1")
 ] + ["0.0000000298023223876953124999999", "-0.0000000298023223876953124999999"]
 
 
 def about(f, path):
-    """Questions about a formula of a sheet: its ends, what lies beside them,
-    its middle and a half of each side; and its fields."""
+    """Questions about a formula of a sheet: its ends, what lies beside them, by
+    a step and by half of one, its middle and a half of each side; and its
+    fields."""
     middle = (f.lo + f.hi) // 2
     asked = [f"{w}w" for w in (f.lo, f.hi, middle, f.lo // 2, f.hi // 2,
                                f.lo - 1, f.hi + 1)]
-    asked.append(decimal(Fraction(f.hi, ONE)))
+    asked += [decimal(Fraction(f.hi, ONE)),
+              decimal(Fraction(f.lo, ONE) - HALF_STEP),
+              decimal(Fraction(f.hi, ONE) + HALF_STEP)]
     for as_words in (False, True):
         name = f"{f.number}-{'words' if as_words else 'decimals'}"
         yield name, path, f.number, asked, as_words

@@ -97,6 +97,10 @@ gives 0 $'1.41421353816986083984375\n' '' ask good.sheet 1 2
 gives 0 $'23726566\n4096\n' '' ask good.sheet --words 1 33554432w 1w
 gives 0 $'number 1\nkind root\ninterval 0 2\n' '' ask good.sheet 1
 gives 0 $'0\n' '' ask - 1 0 <good.sheet
+# Half a step goes away from zero: at 0 to 1 and -1, below 2 to 2, above 2 out.
+half=0000000298023223876953125
+gives 1 $'4096\nrefused 10 at 0\n23726566\nrefused 10 at 0\n' "formula 1 at -0.$half: refused 10" \
+    ask good.sheet 1 "0.$half" "-0.$half" 1.9999999701976776123046875 "2.$half" --words
 gives 1 $'0\nrefused 10 at 0\n1\n' 'good.sheet, formula 1 at -0.5: refused 10 at 0: the argument' ask good.sheet 1 0 -0.5 1
 gives 1 $'refused 11 at 0\n' 'refused 11 at 0: no formula has that number' ask good.sheet 2 0
 gives 1 $'refused 1 at 24\n' 'refused 1 at 24: the bytes stop' ask 'cut short.sheet' 1 0 1

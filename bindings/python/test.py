@@ -75,6 +75,17 @@ class Reading(Case):
         self.refuses(10, 0, vp.evaluate_double, SHEET, 1, 10**300)
         self.refuses(13, 0, vp.evaluate_double, SHEET, 1, float("nan"))
 
+    def test_ties(self):
+        """x itself, at halves of a step: they go away from zero."""
+        sheet = vp.write_sheet(vp.write_record(vp.Fields(
+            vp.POLYNOMIAL, 1, -ONE, ONE, p=2, words=(0, ONE))))
+        for halves, steps in ((1, 1), (-1, -1), (3, 2), (-3, -2)):
+            self.assertEqual(
+                vp.evaluate_double(sheet, 1, halves / (2 * ONE)).value,
+                steps / ONE)
+        for beyond in (1 + 2**-25, -1 - 2**-25):
+            self.refuses(10, 0, vp.evaluate_double, sheet, 1, beyond)
+
 
 class Writing(Case):
     def test_record(self):
@@ -118,9 +129,9 @@ class Writing(Case):
                                        (8, ONE, 45538158), (8, -ONE, 6181080),
                                        (9, ONE // 2, 9151209),
                                        # s is 1/4: 16777216 - 699051, halved,
-                                       # is a tie, which goes upward
+                                       # is a tie
                                        (10, ONE // 2, 8039083),
-                                       (10, -ONE // 2, -8039082),
+                                       (10, -ONE // 2, -8039083),
                                        # -8388608 + 174763 by 4 is -2053461.25
                                        (11, ONE // 2, 14723755),
                                        (11, -ONE // 2, 14723755)):

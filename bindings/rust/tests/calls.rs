@@ -1,4 +1,4 @@
-//! Calls each function of the binding, on the paper's own sheet, and on an odd and an even formula.
+//! Calls each function of the binding, on the paper's own sheet, at ties, and on an odd and an even formula.
 
 use valvepigeon::*;
 
@@ -69,6 +69,22 @@ fn series(kind: u16, number: u16, coefficients: &[i32]) -> Fields {
 }
 
 #[test]
+fn ties_go_away_from_zero() {
+    let mut record = [0; LONGEST_RECORD];
+    let length = write_record(&series(POLYNOMIAL, 1, &[0, ONE]), &mut record).unwrap();
+    let mut sheet = vec![0; length + SHEET_ADDS];
+    write_sheet(&record[..length], &mut sheet).unwrap();
+    // x itself, at halves of a step
+    let step = 1.0 / f64::from(ONE);
+    for (argument, value) in [(0.5, 1.0), (-0.5, -1.0), (1.5, 2.0), (-1.5, -2.0)] {
+        assert_eq!(evaluate_double(&sheet, 1, argument * step).unwrap().value, value * step);
+    }
+    for beyond in [1.0 + 0.5 * step, -1.0 - 0.5 * step] {
+        assert_eq!(evaluate_double(&sheet, 1, beyond), refused(10, 0));
+    }
+}
+
+#[test]
 fn odd_and_even() {
     let (odd, even) = (series(ODD, 1, &[ONE, -2796203]), series(EVEN, 2, &[ONE, -ONE / 2, 699051]));
     let mut run = [0; 2 * LONGEST_RECORD];
@@ -79,7 +95,7 @@ fn odd_and_even() {
     write_sheet(&run[..length], &mut sheet).unwrap();
     assert_eq!((formula(&sheet, 1), formula(&sheet, 2)), (Ok(odd), Ok(even)));
     // x - x^3/6, where the last product is a tie, and 1 - x^2/2 + x^4/24
-    for (number, argument, word) in [(1, ONE / 2, 8039083), (1, -ONE / 2, -8039082), (2, ONE / 2, 14723755), (2, -ONE / 2, 14723755)] {
+    for (number, argument, word) in [(1, ONE / 2, 8039083), (1, -ONE / 2, -8039083), (2, ONE / 2, 14723755), (2, -ONE / 2, 14723755)] {
         assert_eq!(evaluate(&sheet, number, argument).unwrap().word, word);
     }
     // 12 times 12 is no word
