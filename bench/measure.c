@@ -206,6 +206,20 @@ static void prepare(formula *f) {
     }
 }
 
+/* Ties, of which the rows have hardly one, for each pair of signs: of the double, of its product with a step, of that step by two. */
+static void ties(void) {
+    static formula tie = {"ties", VP_RATIONAL, 1, {VP_RATIONAL, 1, -16777216, 16777216, 2, 1, 0, {0, 1}}};
+    const formula *f = &tie;
+    for (int divisor = -33554432; divisor <= 33554432; divisor += 2 * 33554432) {
+        tie.fields.words[2] = divisor;
+        prepare(&tie);
+        for (double steps = -8388607.5; steps <= 8388607.5; steps += 2 * 8388607.5) {
+            vp_shown plain = plain_evaluate_double(ALONE(f), steps / 16777216), ours = vp_evaluate_double(ALONE(f), steps / 16777216);
+            judge(f->name, same_shown(&plain, &ours), ours.refused, 0);
+        }
+    }
+}
+
 int main(int count, char **words) {
     FILE *file = count > 1 ? fopen(words[1], "rb") : NULL;
     if (!file) stop("measure", "no sheet that can be read");
@@ -215,6 +229,7 @@ int main(int count, char **words) {
     pad(&formulas[ODD].fields);
     prepare(&padded);
     refusals();
+    ties();
     if (count == 2) rows(0);
     else while (pass++ < PASSES) row = 0, rows(1);
     return 0;

@@ -13,14 +13,16 @@ static inline int32_t i32(const uint8_t *p) { return (int32_t)u32(p); }
 static inline void put16(uint8_t *p, uint16_t v) { memcpy(p, &v, 2); }
 static inline void put32(uint8_t *p, uint32_t v) { memcpy(p, &v, 4); }
 
-/* Arithmetic: of words, rounded to the nearest, a tie upward; of bounds, rounded upward. */
-static inline wide product(int32_t a, int32_t b) { return ((wide)a * b + ONE / 2) >> PLACES; }
+/* Arithmetic: of words, rounded to the nearest, a tie away from zero; of bounds, rounded upward. */
+static inline wide product(int32_t a, int32_t b) {
+    wide n = (wide)a * b;
+    return (n + (n >> 63) + ONE / 2) >> PLACES;
+}
 
+/* The division rounds towards zero, so half of the divisor is added first, away from zero; all is doubled, for the half to be whole. */
 static inline wide quotient(int32_t a, int32_t d) {
-    wide m = (wide)a * ONE, e = d;
-    if (d < 0) { m = -m; e = -e; }
-    wide t = 2 * m + e, w = 2 * e, q = t / w;
-    return q - (t % w < 0);
+    wide e = d, half = (a ^ d) < 0 ? -e : e;
+    return ((wide)a * (2 * ONE) + half) / (2 * e);
 }
 
 static inline uint32_t size(int32_t x) { return x < 0 ? 0u - (uint32_t)x : (uint32_t)x; }
@@ -240,10 +242,10 @@ vp_shown plain_evaluate_double(const uint8_t *sheet, size_t length, uint16_t num
     wide z = 0;
     if (e >= 1022 - PLACES) {
         wide m = (wide)((b & 0xfffffffffffffULL) | 1ULL << 52);
-        if (b >> 63) m = -m;
         unsigned cut = 1075 - PLACES - e;
         z = (m + (1LL << (cut - 1))) >> cut;
-        if (z < -2147483647 || z > 2147483647) return (vp_shown){VP_ARGUMENT_OUTSIDE, 0, 0};
+        if (z > MOST) return (vp_shown){VP_ARGUMENT_OUTSIDE, 0, 0};
+        if (b >> 63) z = -z;
     }
     int32_t x = (int32_t)z;
     if (x < i32(r + 8) || x > i32(r + 12)) return (vp_shown){VP_ARGUMENT_OUTSIDE, 0, 0};

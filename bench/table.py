@@ -14,6 +14,7 @@ from pathlib import Path
 
 # The rows of one sine: as an odd formula, and padded to a polynomial.
 ODD, PADDED = "odd, sheet of 1", "polynomial, odd padded"
+ALONE = {f"{kind}, sheet of 1" for kind in ("rational", "fraction", "odd", "even")}
 
 
 def counted(folder, compiler):
@@ -38,6 +39,8 @@ def bound(what, compiler, name):
         return 1.05 if name.startswith("reading") else None
     if name.startswith(("reading", "writing", "polynomial")):
         return {"clang": 1.00, "gcc": 1.05}[compiler]
+    if compiler == "clang" and name in ALONE:
+        return 1.05
     if name.startswith(("odd", "even")):
         return 1.10
     return {"clang": 1.15, "gcc": None}[compiler]
