@@ -2,6 +2,6 @@
 pub mod ReadingLaws
 pub mod AnswersInside
 pub mod SheetDistance
-pub mod SameBothSides
+pub mod BothSides
 pub mod WhichRefusals
 pub mod Settled

@@ -1,9 +1,9 @@
--- Laws of formulas. `StaysInRange`, `Distance`, `SameBothSides` and `CheckedByHand` hold promises.
+-- Laws of formulas. `StaysInRange`, `Distance`, `BothSides` and `CheckedByHand` hold promises.
 pub mod IntervalLaws
 pub mod SoundLaws
 pub mod StaysInRange
 pub mod ReadyLaws
 pub mod JudgedLaws
 pub mod Distance
-pub mod SameBothSides
+pub mod BothSides
 pub mod CheckedByHand

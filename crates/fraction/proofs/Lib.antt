@@ -1,4 +1,5 @@
--- Laws of continued fractions. `StaysInRange` and `PrintedForm` hold promises.
+-- Laws of continued fractions. `StaysInRange`, `PrintedForm` and `BothSides` hold promises.
 pub mod WalkLaws
 pub mod StaysInRange
 pub mod PrintedForm
+pub mod BothSides

@@ -1,5 +1,5 @@
--- Laws of odd and even polynomials, lowest first. `StaysInRange`, `Distance` and `SameBothSides` hold promises.
+-- Laws of odd and even polynomials, lowest first. `StaysInRange`, `Distance` and `BothSides` hold promises.
 pub mod SquareLaws
 pub mod StaysInRange
 pub mod Distance
-pub mod SameBothSides
+pub mod BothSides

@@ -1,6 +1,7 @@
--- Laws of polynomials, lowest first. `Distance` and `StaysInRange` hold promises.
+-- Laws of polynomials, lowest first. `StaysInRange`, `Distance` and `BothSides` hold promises.
 pub mod WalkLaws
 pub mod BoundLaws
 pub mod StaysInRange
 pub mod SumLaws
 pub mod Distance
+pub mod BothSides

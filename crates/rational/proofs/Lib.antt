@@ -1,3 +1,4 @@
--- Laws of rational formulas. `StaysInRange` holds a promise.
+-- Laws of rational formulas. `StaysInRange` and `BothSides` hold promises.
 pub mod AdmissionSteps
 pub mod StaysInRange
+pub mod BothSides

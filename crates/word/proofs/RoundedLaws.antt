@@ -3,7 +3,7 @@
 -- functions use; the other laws keep their statements.
 use Rattle.whole.proofs.Basics.{_≡_, _∙_, refl, sym, ap, ℕ, suc, zero, _+_, _-_, _*_, _/_, _≤_, _<_, arith, ℤ, pos, negsuc, negℤ, natAbs, _+ℤ_, _-ℤ_, _*ℤ_}
 use native.Mathlib.Decide.{decLe}
-use native.Mathlib.Nat.{div-add-mod, mod-lt, lt-of-mul-lt-mul-left}
+use native.Mathlib.Nat.{div-add-mod, div-zero, mod-lt, lt-of-mul-lt-mul-left}
 use lib.IntN.{negℤ-negℤ}
 use lib.Signed.{shrZ, quotZ}
 use Rattle.whole.proofs.Diff.{P, N, v, n, _⊕_, _⊗_, _⊝_, ⊖_, same, same-out, size}
@@ -32,7 +32,13 @@ rounded-odd (pos zero) d = ap pos (half-zero d) ∙ sym (ap (λ (k : ℕ). neg�
 rounded-odd (pos (suc a)) d = refl
 rounded-odd (negsuc a) d = sym (negℤ-negℤ (pos (halfUp (suc a) d)))
 
--- so a law of all numbers is one of naturals
+-- by 0 it is 0, so that laws of quotients need not leave it out
+pub rounded-none : (m : ℤ) → rounded m 0 ≡ pos 0
+unfolding rounded
+rounded-none (pos a) = ap pos (div-zero (a + a + 0))
+rounded-none (negsuc a) = ap (λ (k : ℕ). negℤ (pos k)) (div-zero (suc a + suc a + 0))
+
+-- what a law of all numbers takes from one of naturals
 natural : (a d q : ℕ) → 0 < d → 2 * (d * q) ≤ 2 * a + d → 2 * a + d < 2 * (d * q) + 2 * d → rounded (pos a) d ≡ pos q
 unfolding rounded
 natural a d q h f g = ap pos (half-is a d q h f g)

@@ -22,6 +22,10 @@ pub sign-abs : (t : Bool) (z : ℤ) → natAbs (withSign t z) ≡ natAbs z
 sign-abs true z = abs-neg z
 sign-abs false z = refl
 
+pub sign-odd : (t : Bool) (z : ℤ) → withSign t (negℤ z) ≡ negℤ (withSign t z)
+sign-odd true z = refl
+sign-odd false z = refl
+
 pub sign-mul : (t : Bool) (z : ℤ) (k : ℕ) → withSign t z *ℤ pos k ≡ withSign t (z *ℤ pos k)
 sign-mul true z k = same (⊖ v z ⊗ n k) (⊖ (v z ⊗ n k)) (omega arith)
 sign-mul false z k = refl

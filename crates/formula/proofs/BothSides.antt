@@ -1,0 +1,37 @@
+-- An odd formula answers at -x exactly the negated answer, and an even one the same: kind by kind.
+use Rattle.whole.proofs.Basics.{_≡_, _∙_, sym, ap, _⊎_, inl, inr, List, ℕ, take, drop, ℤ, negℤ}
+use Rattle.polynomial.proofs.BothSides.{polynomial-negated, polynomial-same}
+use Rattle.odd_even.proofs.BothSides.{odd-negated, even-same}
+use Rattle.rational.proofs.BothSides.{odd-over-even, even-over-odd, even-over-even, odd-over-odd}
+use Rattle.fraction.proofs.BothSides.{fraction-negated, fraction-same}
+use Rattle.formula.specs.Formula.{answerBy, answerOf}
+use Rattle.formula.specs.Parity.{OddBy, OddFormula, EvenBy, EvenFormula}
+use Rattle.formula.specs.declared.Kind.{Kind}
+use Rattle.formula.specs.declared.Kind.the-variants.{Polynomial, Rational, Fraction, Root, Odd, Even, NoFormula}
+use Rattle.formula.specs.declared.Shape.{Shape}
+
+negated-by : (k : Kind) (s p q mode : ℕ) (ws : List ℤ) (x : ℤ) → OddBy k p q mode ws → answerBy k s p q mode ws (negℤ x) ≡ negℤ (answerBy k s p q mode ws x)
+negated-by Polynomial s p q mode ws x h = polynomial-negated s (take p ws) x h
+negated-by Rational s p q mode ws x (inl h) = odd-over-even s (take p ws) (take q (drop p ws)) x (h .0) (h .1)
+negated-by Rational s p q mode ws x (inr h) = even-over-odd s (take p ws) (take q (drop p ws)) x (h .0) (h .1)
+negated-by Fraction s p q mode ws x h = rw (h .0) (fraction-negated s ws p x (h .1))
+negated-by Root s p q mode ws x h = absurd h
+negated-by Odd s p q mode ws x h = odd-negated s (take p ws) x
+negated-by Even s p q mode ws x h = absurd h
+negated-by NoFormula s p q mode ws x h = absurd h
+
+pub formula-negated : (s : ℕ) (h : Shape) (ws : List ℤ) (x : ℤ) → OddFormula h ws → answerOf s h ws (negℤ x) ≡ negℤ (answerOf s h ws x)
+formula-negated s h ws x o = negated-by (h .kind) s (h .p) (h .q) (h .mode) ws x o
+
+same-by : (k : Kind) (s p q mode : ℕ) (ws : List ℤ) (x : ℤ) → EvenBy k p q mode ws → answerBy k s p q mode ws (negℤ x) ≡ answerBy k s p q mode ws x
+same-by Polynomial s p q mode ws x h = polynomial-same s (take p ws) x h
+same-by Rational s p q mode ws x (inl h) = even-over-even s (take p ws) (take q (drop p ws)) x (h .0) (h .1)
+same-by Rational s p q mode ws x (inr h) = odd-over-odd s (take p ws) (take q (drop p ws)) x (h .0) (h .1)
+same-by Fraction s p q mode ws x h = rw h (fraction-same s ws p x)
+same-by Root s p q mode ws x h = absurd h
+same-by Odd s p q mode ws x h = absurd h
+same-by Even s p q mode ws x h = even-same s (take p ws) x
+same-by NoFormula s p q mode ws x h = absurd h
+
+pub formula-same : (s : ℕ) (h : Shape) (ws : List ℤ) (x : ℤ) → EvenFormula h ws → answerOf s h ws (negℤ x) ≡ answerOf s h ws x
+formula-same s h ws x e = same-by (h .kind) s (h .p) (h .q) (h .mode) ws x e
