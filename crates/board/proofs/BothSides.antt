@@ -1,16 +1,29 @@
--- Promise: an even formula of an accepted sheet answers at -x exactly as at x, where both lie in its interval.
+-- Promise: an odd formula of an accepted sheet answers at -x exactly the negated answer, and an even one the same, where both arguments lie in its
+-- interval.
 use Rattle.whole.proofs.Basics.{_≡_, _∙_, sym, ap, List, ℕ, ℤ, negℤ, _≤ℤ_}
-use Rattle.formula.specs.declared.Kind.the-variants.{Even}
-use Rattle.formula.proofs.SameBothSides.{same-both-sides}
+use Rattle.formula.specs.declared.Formula.{Formula}
+use Rattle.formula.specs.Parity.{OddFormula, EvenFormula}
+use Rattle.formula.proofs.BothSides.{formula-negated, formula-same}
 use Rattle.layout.specs.Fields.{wordsIn}
 use Rattle.sheet.specs.Reader.{HasFormula}
-use Rattle.answering.specs.Answering.{answered}
+use Rattle.answering.specs.Answering.{answered, evaluationWord}
+use Rattle.answering.specs.declared.answers.Evaluation.{Evaluation}
 use Rattle.board.specs.Board.{evaluated}
 use Rattle.board.proofs.AnswersInside.{formulaGiven, answers-inside}
 
-pub sheet-same-both-sides : (s : ℕ) (bytes : List ℕ) (k : ℕ) (given : HasFormula s bytes k) (x : ℤ) →
-    let f = formulaGiven s bytes k in
-    f .shape .kind ≡ Even → f .lo ≤ℤ x → x ≤ℤ f .hi → f .lo ≤ℤ negℤ x → negℤ x ≤ℤ f .hi → evaluated s bytes k (negℤ x) ≡ evaluated s bytes k x
-sheet-same-both-sides s bytes k given x e l h l′ h′ =
-    let f = formulaGiven s bytes k in
-    answers-inside s bytes k given (negℤ x) l′ h′ ∙ ap answered (same-both-sides s (f .shape) (wordsIn f) x e) ∙ sym (answers-inside s bytes k given x l h)
+-- the formula n of an accepted sheet that has it, at x and -x in its interval
+module _ (s : ℕ) (bytes : List ℕ) (n : ℕ) (given : HasFormula s bytes n) (x : ℤ) where
+  abbrev f : Formula
+  f = formulaGiven s bytes n
+
+  pub sheet-negated : OddFormula (f .shape) (wordsIn f) → f .lo ≤ℤ x → x ≤ℤ f .hi → f .lo ≤ℤ negℤ x → negℤ x ≤ℤ f .hi → evaluated s bytes n (negℤ x) ≡ answered (negℤ (evaluationWord (evaluated s bytes n x)))
+  sheet-negated o l h l′ h′ =
+      answers-inside s bytes n given (negℤ x) l′ h′
+      ∙ ap answered (formula-negated s (f .shape) (wordsIn f) x o)
+      ∙ ap (λ (e : Evaluation). answered (negℤ (evaluationWord e))) (sym (answers-inside s bytes n given x l h))
+
+  pub sheet-same : EvenFormula (f .shape) (wordsIn f) → f .lo ≤ℤ x → x ≤ℤ f .hi → f .lo ≤ℤ negℤ x → negℤ x ≤ℤ f .hi → evaluated s bytes n (negℤ x) ≡ evaluated s bytes n x
+  sheet-same e l h l′ h′ =
+      answers-inside s bytes n given (negℤ x) l′ h′
+      ∙ ap answered (formula-same s (f .shape) (wordsIn f) x e)
+      ∙ sym (answers-inside s bytes n given x l h)

@@ -2,5 +2,6 @@
 pub mod ReadingLaws
 pub mod SameNumbers
 pub mod DoublesInside
+pub mod BothSides
 pub mod WhichRefusals
 pub mod Settled

@@ -2,7 +2,7 @@
 use mathlib.Core.Path.{_≡_, refl}
 use mathlib.Core.Bool.{Bool, true, false, cond}
 use Prim.Native.Nat.{ℕ, _*_}
-use lib.IntN.{ℤ, pos, negsuc, natAbs}
+use lib.IntN.{ℤ, pos, negsuc, negℤ, natAbs}
 use lib.Dec.{leb}
 use lib.Ieee.{Float, nan, inf, fin, binary64, up, down, ofBits}
 use Rattle.word.specs.Rounded.{rounded}
@@ -28,6 +28,12 @@ unfoldable pub takenOf : ℕ → Float → Taken
 takenOf s nan = NotFinite
 takenOf s (inf t) = NotFinite
 takenOf s (fin t m e) = asWord (argumentOf s t m e)
+
+-- the same of the other sign
+abbrev pub negatedTaken : Taken → Taken
+negatedTaken (Word w) = Word (negℤ w)
+negatedTaken NoWord = NoWord
+negatedTaken NotFinite = NotFinite
 
 -- the paper's number of each case, 0 where there is no refusal, its place, and the word, 0 where there is none
 abbrev pub takenNumber : Taken → ℕ
