@@ -1,5 +1,6 @@
-"""The paper's own cases (01, 'Checked by hand'), P or not, and the listing's;
-then cases of odd and even formulas, worked out by hand from request M-100.
+"""The paper's own cases (01, 'Checked by hand'), P or not, with the tie cases
+as request M-101 has them, and the listing's; then cases of odd and even
+formulas (request M-100) and of ties (M-101), worked out by hand.
 
 A case is a formula, an argument where an answer is asked, and what is given:
 an answer word, a refusal number at the record, or accepted (0).
@@ -17,9 +18,13 @@ def polynomial(words, lo=-2 * ONE, hi=2 * ONE):
     return Formula(POLYNOMIAL, 1, lo, hi, len(words), 0, 0, words)
 
 
-def rational(numerator, divisor, lo, hi):
+def rational(numerator, divisor, lo=-2 * ONE, hi=2 * ONE):
     return Formula(RATIONAL, 1, lo, hi, len(numerator), len(divisor), 0,
                    numerator + divisor)
+
+
+def fraction(mode, words, lo=-2 * ONE, hi=2 * ONE):
+    return Formula(FRACTION, 1, lo, hi, len(words) // 2, 0, mode, words)
 
 
 STEP = polynomial((0, 1))
@@ -27,13 +32,13 @@ QUADRATIC = polynomial((ONE, ONE, 8388608))
 PADE = rational(ones(12, 6, 1), ones(12, -6, 1), -ONE, ONE)
 PADE_WIDER = PADE._replace(lo=-2 * ONE, hi=2 * ONE)
 CUBIC = rational(ones(120, 60, 12, 1), ones(120, -60, 12, -1), -ONE, ONE)
-TANGENT = Formula(FRACTION, 1, -ONE, ONE, 2, 0, 2, ones(0, 1, 1, -1, 3))
+TANGENT = fraction(2, ones(0, 1, 1, -1, 3), -ONE, ONE)
 SQUARE_ROOT = Formula(ROOT, 1, 0, 2 * ONE, 0, 0, 0, ())
 
 ANSWERS = (
     (STEP, 8388608, 1),
-    (STEP, -8388608, 0),
-    (STEP, -25165824, -1),
+    (STEP, -8388608, -1),
+    (STEP, -25165824, -2),
     (QUADRATIC, 8388608, 27262976),
     (PADE, 0, 16777216),
     (PADE, ONE, 45538158),
@@ -63,7 +68,8 @@ REFUSED = (
     (LISTED[:24] + bytes(8), 2, 24),
 )
 
-# Odd and even formulas. Where no interval stands, it is -2 to 2.
+# Odd and even formulas. Here and below the interval is -2 to 2 where none
+# stands.
 
 
 def odd(words, *ends):
@@ -97,13 +103,14 @@ ODD_OF_THREE = odd((ONE, -ONE // 4, ONE // 32))
 ODD_AND_EVEN_ANSWERS = (
     (ODD_STEP, 0, 0),
     (ODD_STEP, HALF - 1, 0),  # just below 1/2
-    (ODD_STEP, HALF, 1),  # 1/2, a tie, upward
-    (ODD_STEP, -HALF, 0),  # -1/2, a tie, upward
+    (ODD_STEP, 1 - HALF, 0),  # just above -1/2
+    (ODD_STEP, HALF, 1),  # 1/2, a tie, away from zero
+    (ODD_STEP, -HALF, -1),  # -1/2, a tie, away from zero
     (ODD_STEP, -HALF - 1, -1),  # just below -1/2
     (ODD_STEP, ONE, 1),
     (ODD_STEP, -ONE, -1),
-    (ODD_STEP, ONE + HALF, 2),  # 3/2, a tie, upward
-    (ODD_STEP, -ONE - HALF, -1),  # -3/2, a tie, upward
+    (ODD_STEP, ONE + HALF, 2),  # 3/2, a tie, away from zero
+    (ODD_STEP, -ONE - HALF, -2),  # -3/2, a tie, away from zero
     (odd((1,), -WIDEST, WIDEST), WIDEST, 11),  # 11.31
     (odd((1,), -WIDEST, WIDEST), -WIDEST, -11),
     # s = 1/4: 1 - 1/8 = 7/8, and 7 * 2^21 steps.
@@ -132,9 +139,9 @@ ODD_AND_EVEN_ANSWERS = (
     (even((0, 4 * ONE)), 2897, 4),
     (even((0, 4 * ONE)), -2897, 4),
     # s = 25/16: one step times it is 1.5625, rounded 2; 2 times 5/4 is 2.5 and
-    # 2 times -5/4 is -2.5, ties, upward.
+    # 2 times -5/4 is -2.5, ties, away from zero.
     (odd((0, 1)), ONE + ONE // 4, 3),
-    (odd((0, 1)), -ONE - ONE // 4, -2),
+    (odd((0, 1)), -ONE - ONE // 4, -3),
     # s = M - 5 at both ends, and 4 more.
     (even((0, ONE), -WIDEST, WIDEST), WIDEST, 2147483642),
     (even((0, ONE), -WIDEST, WIDEST), -WIDEST, 2147483642),
@@ -181,4 +188,72 @@ ODD_AND_EVEN_ADMISSIONS = (
     (odd((1073741820, 1)), 7),
     # S = 0: every B is |ck|, and the last bound product is 0.
     (odd((2147483647, 2147483647), 0, 0), 0),
+)
+
+# Ties, each going away from zero. In the comments arguments, s and divisors
+# are in ones, all else is in steps.
+
+LARGEST_TIE = polynomial((0, 9241 << 12), -464773 << 11, 464773 << 11)
+
+TIES = (
+    # 1, and 1/2 or -1/2 more, which is 1 or -1.
+    (polynomial((1, 1)), HALF, 2),
+    (polynomial((1, 1)), -HALF, 0),
+    # 9241 * 464773 = 4294967293 = 2 M - 1, and the other factors are 2^12 and
+    # 2^11, so the product is M - 1/2.
+    (LARGEST_TIE, 464773 << 11, 2147483647),
+    (LARGEST_TIE, -464773 << 11, -2147483647),
+    # 1 times 3/2 is 3/2, a tie: 2; times 3/2 again 3; and again 9/2, a tie: 5.
+    # Times -3/2 it is -2, 3 and -5.
+    (polynomial((0, 0, 1)), ONE + HALF, 3),
+    (polynomial((0, 0, 1)), -ONE - HALF, 3),
+    (polynomial((0, 0, 0, 1)), ONE + HALF, 5),
+    (polynomial((0, 0, 0, 1)), -ONE - HALF, -5),
+    # At 1/2: 1/2, so 1; 1/2, so 1, and 3 more. At -1/2: -1, 1, and 3 more.
+    (polynomial((3, 0, 1)), HALF, 4),
+    (polynomial((3, 0, 1)), -HALF, 4),
+    # At 1/2: 1/2, so 1; 1/2, so 1, and 1 more is 2; the half of it is 1. At
+    # -1/2: -1; 1, and 1 more is 2; -1.
+    (polynomial((0, 1, 0, 1)), HALF, 1),
+    (polynomial((0, 1, 0, 1)), -HALF, -1),
+    # s = 1/4: 2 or -2 times it is 1/2 or -1/2, so 1 or -1; an odd formula has
+    # this times 1/2 or -1/2, a tie again.
+    (even((0, 2)), HALF, 1),
+    (even((0, 2)), -HALF, 1),
+    (even((0, -2)), HALF, -1),
+    (even((0, -2)), -HALF, -1),
+    (odd((0, 2)), HALF, 1),
+    (odd((0, 2)), -HALF, -1),
+    (odd((0, -2)), HALF, -1),
+    (odd((0, -2)), -HALF, 1),
+    # A numerator n over 2 is n/2, over -2 it is -n/2. At 1 and -1 the first n
+    # is 1 and -1; at 1/2 and -1/2 too, by ties of their own.
+    (rational((0, 1), ones(2)), ONE, 1),
+    (rational((0, 1), ones(2)), -ONE, -1),
+    (rational((0, 1), ones(-2)), ONE, -1),
+    (rational((0, 1), ones(-2)), -ONE, 1),
+    (rational((0, 1), ones(2)), HALF, 1),
+    (rational((0, 1), ones(2)), -HALF, -1),
+    (rational((0, 3), ones(2)), ONE, 2),  # 3/2
+    (rational((0, 3), ones(2)), -ONE, -2),
+    (rational((0, 0, 3), ones(-2)), ONE, -2),  # -3/2
+    (rational((0, 0, 3), ones(-2)), -ONE, -2),
+    # The divisor is 2 less a step, and a step times x times x, which is 1 at 1
+    # and -1, and at 1/2 and -1/2 by ties. So it is 2 at all four.
+    (rational((0, 1), (2 * ONE - 1, 0, 1)), ONE, 1),
+    (rational((0, 1), (2 * ONE - 1, 0, 1)), -ONE, -1),
+    (rational((0, 1), (2 * ONE - 1, 0, 1)), HALF, 1),
+    (rational((0, 1), (2 * ONE - 1, 0, 1)), -HALF, -1),
+    # 1 or -1 over 2 and over -2, in mode 0; -3 over 2, in mode 1: -3/2, so -2,
+    # and 5 more.
+    (fraction(0, (0, 1, 2 * ONE)), ONE, 1),
+    (fraction(0, (0, 1, 2 * ONE)), -ONE, -1),
+    (fraction(0, (0, 1, -2 * ONE)), ONE, -1),
+    (fraction(0, (0, 1, -2 * ONE)), -ONE, 1),
+    (fraction(1, (5, -3, 2 * ONE)), ONE, 3),
+    (fraction(1, (5, -3, 2 * ONE)), -ONE, 3),
+    # In mode 2, s = 1: 1 over 2 is 1/2, so 1, which makes t 2; then 3 or -3
+    # over it is 3/2 or -3/2.
+    (fraction(2, (0, 3, 2 * ONE - 1, 1, 2 * ONE)), ONE, 2),
+    (fraction(2, (0, 3, 2 * ONE - 1, 1, 2 * ONE)), -ONE, -2),
 )

@@ -12,18 +12,19 @@ from random import Random
 import slow
 from by_hand import (
     ADMISSIONS, ANSWERS, LISTED, ODD_AND_EVEN_ADMISSIONS, ODD_AND_EVEN_ANSWERS,
-    REFUSED)
+    REFUSED, TIES)
 from door import evaluate_double, interval, pattern_of, word_of
 from evaluation import evaluate
 from formulas import (
     EVEN, FRACTION, ODD, POLYNOMIAL, POLYNOMIALS, RATIONAL, ROOT, Formula,
     admission, answer)
 from makers import (
-    KINDS, arguments, full_polynomial, good_formula, good_formulas, largest,
-    sheet_of, signed, size, with_field, word)
+    EVEN_FORMS, KINDS, ODD_FORMS, OTHER_FORMS, arguments, formula_of_form,
+    full_polynomial, good_formula, good_formulas, largest, sheet_of, signed,
+    size, tied_divisor, tied_formula, with_field, word)
 from number import (
-    M, NO_WORD, ONE, bound_product, bound_quotient, is_word, product, quotient,
-    root)
+    M, NO_WORD, ONE, bound_product, bound_quotient, is_word, nearest, product,
+    quotient, root)
 from questions import (
     COUNT, DOUBLE, EVALUATE, FORMULA, INTERVAL, RECORD, SHEET, answer_to,
     ask_record, ask_sheet, buffer_beforehand, unpacked_fields)
@@ -33,6 +34,7 @@ from vectors import taken_apart
 from writing import record_of, start_or_end, write_record, write_sheet
 
 INFINITY = 0x7FF << 52
+MINUS = 1 << 63
 
 
 class Tally:
@@ -64,8 +66,9 @@ def refused(number, place=0):
 
 def check_by_hand(tally, rng):
     """Every row of 'Checked by hand', P or not, the listing's sheets, and the
-    cases of odd and even formulas."""
-    for formula, argument, expected in (*ANSWERS, *ODD_AND_EVEN_ANSWERS):
+    cases of odd and even formulas and of ties."""
+    for formula, argument, expected in (*ANSWERS, *ODD_AND_EVEN_ANSWERS,
+                                        *TIES):
         sheet = sheet_of([formula])
         tally.same("by hand", evaluate(sheet, 1, argument), expected)
         tally.same("by hand, in doubles",
@@ -82,20 +85,63 @@ def check_by_hand(tally, rng):
                [Formula(ROOT, 1, 0, 33554432, 0, 0, 0, ())])
 
 
-def check_arithmetic(tally, rng):
-    """Products, quotients, bounds and roots against slow definitions."""
+def ratios(rng):
+    """Two numbers whose ratio is to be rounded, and two where it is a tie."""
+    d = word(rng) or 1
+    yield word(rng), d
+    yield (2 * word(rng) + 1) * d, 2 * d
+
+
+def factors(rng):
+    """Two words, and two whose product is a tie."""
+    twos = rng.randrange(24)
+    yield word(rng), word(rng)
+    yield (signed(rng, 2 * size(rng, 99) + 1 << twos),
+           signed(rng, 2 * size(rng, 99) + 1 << 23 - twos))
+
+
+def dividends_and_divisors(rng):
+    """Two words, and two numbers whose quotient is a tie."""
+    n = signed(rng, 1 + size(rng, 99))
+    yield word(rng), word(rng) or 1
+    yield n, tied_divisor(rng, n)
+
+
+def check_rounding(tally, rng):
+    """Rounding, products and quotients: against slow definitions, odd in each
+    of the two numbers, and case by case."""
+    for operation, definition, pairs in (
+            (nearest, lambda a, d: slow.nearest(Fraction(a, d)),
+             ratios),
+            (product, slow.product, factors),
+            (quotient, slow.quotient, dividends_and_divisors)):
+        for _ in range(2000):
+            for a, b in pairs(rng):
+                what = f"{operation.__name__} of {a} and {b}"
+                found = operation(a, b)
+                tally.same(what, found, definition(a, b))
+                tally.same(f"{what}, odd in the first", operation(-a, b),
+                           -found)
+                tally.same(f"{what}, odd in the second", operation(a, -b),
+                           -found)
+    # 8388608 is one half, so n times it is n/2.
+    for a, b, expected in ((1, 8388608, 1), (-1, 8388608, -1),
+                           (-1, 8388607, 0), (-1, 8388609, -1),
+                           (3, -8388608, -2), (-3, -8388608, 2),
+                           (M, M, 274877906688)):
+        tally.same(f"product {a} {b}", product(a, b), expected)
+    # 1 << 25 is two, so n over it is n/2.
+    for a, d, expected in ((1, 1 << 25, 1), (-1, 1 << 25, -1),
+                           (1, -(1 << 25), -1), (-1, -(1 << 25), 1),
+                           (-1, (1 << 25) + 1, 0), (-1, (1 << 25) - 1, -1),
+                           (-3, 1 << 25, -2), (ONE, -3 * ONE, -5592405)):
+        tally.same(f"quotient {a} {d}", quotient(a, d), expected)
+
+
+def check_bounds_and_roots(tally, rng):
+    """Bounds and roots against slow definitions."""
     for _ in range(4000):
-        a, b, d = word(rng), word(rng), word(rng) or 1
-        twos = rng.randrange(24)
-        tied = (signed(rng, 2 * size(rng, 99) + 1 << twos),
-                signed(rng, 2 * size(rng, 99) + 1 << 23 - twos))
-        for x, y in ((a, b), tied):
-            tally.same(f"product {x} {y}", product(x, y), slow.product(x, y))
-        tied = signed(rng, 2 * size(rng, 99) + 1), signed(rng, 1 << 25)
-        for x, y in ((a, d), tied):
-            tally.same(f"quotient {x} {y}", quotient(x, y),
-                       slow.quotient(x, y))
-        a, b, d = abs(a), abs(b), abs(d)
+        a, b, d = abs(word(rng)), abs(word(rng)), abs(word(rng)) or 1
         tally.same(f"bound product {a} {b}", bound_product(a, b),
                    slow.bound_product(a, b))
         tally.same(f"bound quotient {a} {d}", bound_quotient(a, d),
@@ -103,21 +149,13 @@ def check_arithmetic(tally, rng):
         side = rng.randrange(1, 46341)
         for x in (a, side * side - 1, side * side, side * side + 1, 0, M):
             tally.same(f"root {x}", root(x), slow.root(x))
-    for a, b, expected in ((1, 8388608, 1), (-1, 8388608, 0),
-                           (-1, 8388609, -1), (-3, 8388608, -1),
-                           (M, M, 274877906688)):
-        tally.same(f"product {a} {b}", product(a, b), expected)
-    for a, d, expected in ((1, 1 << 25, 1), (-1, 1 << 25, 0),
-                           (1, -(1 << 25), 0), (-1, -(1 << 25), 1),
-                           (-3, 1 << 25, -1), (ONE, -3 * ONE, -5592405)):
-        tally.same(f"quotient {a} {d}", quotient(a, d), expected)
 
 
 def check_formulas(tally, rng):
-    """Answers and admission against slow definitions; an admitted formula's
-    answers are words, and its divisors never 0."""
-    for kind in KINDS * 300:
-        formula = good_formula(rng, kind)
+    """Answers and admission against slow definitions, some with ties; an
+    admitted formula's answers are words, and its divisors never 0."""
+    for formula in (*(good_formula(rng, kind) for kind in KINDS * 300),
+                    *(tied_formula(rng, *form) for form in OTHER_FORMS * 30)):
         tally.same(f"admission of {formula}", slow.admission(formula), 0)
         for argument in arguments(rng, formula)[:4]:
             found = answer(formula, argument)
@@ -135,10 +173,11 @@ def check_formulas(tally, rng):
 
 def check_polynomials(tally, rng):
     """Admitted polynomials, odd and even ones among them, some with no room
-    left below M: all that they meet on the way is a word, the answer lies
-    within demand 3's distance, and even answers at -x as at x."""
+    left below M, some with ties: all that they meet on the way is a word, and
+    the answer lies within demand 3's distance."""
     for kind in POLYNOMIALS * 300:
-        drawn = rng.choice((good_formula, full_polynomial))(rng, kind)
+        drawn = rng.choice(
+            (good_formula, full_polynomial, tied_formula))(rng, kind)
         a = largest(drawn)
         formula = drawn._replace(lo=-a, hi=a)
         sheet = sheet_of([formula])
@@ -148,21 +187,45 @@ def check_polynomials(tally, rng):
             tally.same(f"{met} are words", all(map(is_word, met)), True)
             tally.same(f"{formula} at {argument} is near {found}",
                        slow.near_enough(formula, argument, found), True)
-            if kind == EVEN:
-                tally.same(f"{formula} at {-argument}",
-                           evaluate(sheet, 1, -argument), found)
+
+
+def check_opposite_arguments(tally, rng):
+    """An odd formula at -x gives the negated answer and an even one the same,
+    where both arguments lie in the interval; answers against the slow
+    definitions. A rational with an odd divisor, whose d0 is 0, is refused."""
+    for sign, forms in ((-1, ODD_FORMS), (1, EVEN_FORMS)):
+        for form in forms * 60:
+            formula = rng.choice((formula_of_form, tied_formula))(rng, *form)
+            for x in (formula.hi, rng.randrange(formula.hi + 1)):
+                sheet = sheet_of([rng.choice((
+                    formula, formula._replace(lo=-x),
+                    formula._replace(hi=x)))])
+                found = evaluate(sheet, 1, x)
+                tally.same(f"{formula} at {x}", found, slow.answer(formula, x))
+                tally.same(f"{formula} at {-x}", evaluate(sheet, 1, -x),
+                           sign * found)
+                tally.same(f"{formula} at {-x}, in doubles",
+                           evaluate_double(sheet, 1, pattern_of(-x)),
+                           pattern_of(sign * found))
+    for powers in ((0, 1), (1, 1)) * 50:
+        formula = formula_of_form(rng, RATIONAL, powers, 0)
+        tally.same(f"admission of {formula}",
+                   (admission(formula), slow.admission(formula)), (8, 8))
 
 
 def check_doubles(tally, rng):
-    """Patterns against the value worked out from their bits in fractions."""
+    """Patterns against the value worked out from their bits in fractions; a
+    negated double is taken as the negated word."""
     for _ in range(3000):
         near = 1023 - 30 + rng.randrange(40) << 52 | rng.getrandbits(52)
         tie = pattern_of(2 * word(rng) + 1, -25)
-        for pattern in (near, near | 1 << 63, tie, tie + 1, tie - 1,
+        for pattern in (near, near | MINUS, tie, tie + 1, tie - 1,
                         rng.getrandbits(64)):
             expected = refused(13)
             if pattern & INFINITY != INFINITY:
                 expected = slow.nearest(slow.value(pattern) * ONE)
+                tally.same(f"double {pattern:016x} negated",
+                           word_of(pattern ^ MINUS), -word_of(pattern))
             tally.same(f"double {pattern:016x}", outcome(word_of, pattern),
                        expected)
         n = word(rng)
@@ -173,9 +236,14 @@ def check_doubles(tally, rng):
                        (-2 * ONE, 0xC000000000000000),
                        (1, 0x3E70000000000000), (M, 0x405FFFFFFFC00000)):
         tally.same(f"double of {n}", pattern_of(n), pattern)
-    for pattern in (0, 1, 1 << 63, 1 << 63 | 1, 1 << 52, 0x3E5FFFFFFFFFFFFF,
-                    0xBE60000000000000):
-        tally.same(f"double {pattern:016x}", word_of(pattern), 0)
+    # 0x3E6 << 52 is half a step, and 0x3E78 << 48 is 3/2 steps.
+    for pattern, n in (
+            (0, 0), (1, 0), (1 << 52, 0), (0x3E5FFFFFFFFFFFFF, 0),
+            (0x3E60000000000000, 1), (0x3E77FFFFFFFFFFFF, 1),
+            (0x3E78000000000000, 2)):
+        tally.same(f"double {pattern:016x}", word_of(pattern), n)
+        tally.same(f"double {pattern | MINUS:016x}", word_of(pattern | MINUS),
+                   -n)
 
 
 # Records for the cases below.
@@ -306,25 +374,44 @@ def check_questions(tally, rng):
                    refused(11))
         tally.same("broken", outcome(evaluate, broken, 4, argument),
                    refused(1, 24))
-    for argument in (INFINITY, INFINITY | 1, INFINITY | 1 << 63, 2**64 - 1):
+    for argument in (INFINITY, INFINITY | 1, INFINITY | MINUS, 2**64 - 1):
         tally.same("not finite", outcome(evaluate_double, sheet, 5, argument),
                    refused(13))
         tally.same("absent", outcome(evaluate_double, sheet, 4, argument),
                    refused(11))
         tally.same("broken", outcome(evaluate_double, broken, 4, argument),
                    refused(1, 24))
-    lowest, highest = pattern_of(7, -25), pattern_of(19, -25)
-    for pattern, expected in (
-            (lowest, pattern_of(8192)), (lowest - 1, refused(10)),
-            (highest - 1, pattern_of(12288)), (highest, refused(10)),
-            (INFINITY - 1, refused(10))):
-        tally.same("ends", outcome(evaluate_double, sheet, 5, pattern),
-                   expected)
     tally.same("interval", outcome(interval, sheet, 5),
                (pattern_of(4), pattern_of(9)))
     tally.same("interval", outcome(interval, sheet, 4), refused(11))
     tally.same("formula", outcome(formula_of, sheet, 4), refused(11))
     tally.same("formula", outcome(formula_of, broken, 5), refused(1, 24))
+
+
+def check_ends(tally, rng):
+    """Doubles of half steps at an interval's ends, and the doubles next to
+    them towards 0: rounding comes first. The formula is x itself."""
+    for lo, hi, halves, towards_0, tie in (
+            # The two words that the doubles become; None is outside. 7/2 is a
+            # tie and becomes 4, 19/2 becomes 10, and so on.
+            (4, 9, 7, None, 4), (4, 9, 19, 9, None),
+            (-9, -4, -7, None, -4), (-9, -4, -19, -9, None),
+            (0, 0, 1, 0, None), (0, 0, -1, 0, None),
+            (-9, 0, 1, 0, None), (0, 9, -1, 0, None),
+            (1, 9, 1, None, 1), (-9, -1, -1, None, -1),
+            # M - 1/2 becomes M, and M + 1/2 becomes M + 1, no word.
+            (M, M, 2 * M - 1, None, M), (-M, -M, 1 - 2 * M, None, -M),
+            (-M, M, 2 * M + 1, M, None), (-M, M, -2 * M - 1, -M, None)):
+        sheet = (framing(START, 1) + polynomial_record(5, (0, ONE), lo, hi)
+                 + framing(END, 1))
+        pattern = pattern_of(halves, -25)
+        for near, n in ((pattern - 1, towards_0), (pattern, tie)):
+            tally.same(f"{halves} halves, ends {lo} and {hi}",
+                       outcome(evaluate_double, sheet, 5, near),
+                       refused(10) if n is None else pattern_of(n))
+        tally.same("far beyond",
+                   outcome(evaluate_double, sheet, 5, INFINITY - 1),
+                   refused(10))
 
 
 def check_round_trips(tally, rng):
@@ -445,9 +532,11 @@ def check_vectors(tally, rng):
             sorted(numbers))
 
 
-CHECKS = (check_by_hand, check_arithmetic, check_formulas, check_polynomials,
-          check_doubles, check_order, check_questions, check_round_trips,
-          check_record_writer, check_sheet_writer, check_vectors)
+CHECKS = (check_by_hand, check_rounding, check_bounds_and_roots,
+          check_formulas, check_polynomials, check_opposite_arguments,
+          check_doubles, check_order, check_questions, check_ends,
+          check_round_trips, check_record_writer, check_sheet_writer,
+          check_vectors)
 
 
 def main():

@@ -4,14 +4,15 @@ from math import isqrt
 
 from by_hand import (
     ADMISSIONS, ANSWERS, LISTED, ODD_AND_EVEN_ADMISSIONS, ODD_AND_EVEN_ANSWERS,
-    REFUSED, WIDEST)
+    REFUSED, TIES, WIDEST)
 from door import pattern_of
 from formulas import (
     EVEN, FRACTION, ODD, POLYNOMIAL, POLYNOMIALS, RATIONAL, ROOT, Formula,
-    bounds, factor)
+    bounds, factor, verdict)
 from makers import (
-    KINDS, arguments, full_polynomial, good_formula, largest, most_below,
-    near_one, sheet_of, signed, size, word)
+    EVEN_FORMS, KINDS, ODD_FORMS, OTHER_FORMS, arguments, formula_of_form,
+    full_polynomial, good_formula, largest, most_below, near_one, sheet_of,
+    signed, size, tied_factor, tied_formula, word)
 from number import M, NO_WORD, ONE, bound_product, bound_quotient, product
 from questions import (
     ask_count, ask_double, ask_evaluate, ask_formula, ask_interval)
@@ -40,8 +41,8 @@ def judged(rng, formula):
 
 def checked_by_hand(rng):
     """The rows of the paper's table, its listing program's sheets, and the
-    cases of odd and even formulas."""
-    for formula, argument, _ in (*ANSWERS, *ODD_AND_EVEN_ANSWERS):
+    cases of odd and even formulas and of ties."""
+    for formula, argument, _ in (*ANSWERS, *ODD_AND_EVEN_ANSWERS, *TIES):
         yield ask_evaluate(sheet_of([formula]), 1, argument)
         yield ask_double(sheet_of([formula]), 1, pattern_of(argument))
     for formula, _ in (*ADMISSIONS, *ODD_AND_EVEN_ADMISSIONS):
@@ -149,6 +150,13 @@ def seven_and_eight_in_rationals(rng):
                         rng, rational(n, (-d0, d1), -a, a))
 
 
+def odd_divisors(rng):
+    """Rationals with an odd divisor, whose d0 is 0 (8), under odd numerators
+    and even ones."""
+    for powers in ((0, 1), (1, 1)) * 10:
+        yield from judged(rng, formula_of_form(rng, RATIONAL, powers, 0))
+
+
 def quotient_bounds(formula):
     """Q of a good fraction for each j, the innermost first."""
     words, a = formula.words, largest(formula)
@@ -239,9 +247,8 @@ def ties_with_squares(rng):
     for _ in range(50):
         x = 2 + size(rng, 4 * ONE)
         s = product(x, x)
-        twos = 23 - ((s & -s).bit_length() - 1)
-        if s > 0 and twos >= 0:
-            c = signed(rng, 2 * rng.randrange(8) + 1 << twos)
+        if s % ONE != 0:
+            c = tied_factor(rng, s)
             for kind in (ODD, EVEN):
                 yield from at_both_signs(polynomial((0, c), -x, x, kind), x)
 
@@ -268,6 +275,43 @@ def quotient_ties(rng):
                 if abs(numerator) <= M:
                     formula = rational((numerator,), (divisor,), 0, 0)
                     yield ask_evaluate(sheet_of([formula]), 1, 0)
+
+
+def ties_at_several_steps(rng):
+    """Odd formulas, even ones and others of every form but the root, where
+    ties are met one after another: in a polynomial's walk, in an odd one's
+    last product, in a rational's quotient, at every depth of a fraction, with
+    divisors of both signs."""
+    for form in (*ODD_FORMS, *EVEN_FORMS, *OTHER_FORMS) * 30:
+        formula = tied_formula(rng, *form)
+        yield from at_both_signs(formula, formula.hi)
+
+
+def powers_of_two(rng):
+    """Coefficients of a few steps, all powers of two, over 2 or -2 in a
+    rational and a fraction, at halves, quarters and eighths: ties, and a
+    fraction's inner terms that move a divisor a little off."""
+    for _ in range(30):
+        words = [signed(rng, 1 << rng.randrange(4))
+                 for _ in range(1 + rng.randrange(6))]
+        two = signed(rng, 2 * ONE)
+        terms = [n for c in words for n in (c, two)]
+        x = rng.choice((1, 3)) << 21 + rng.randrange(3)
+        for formula in (
+                *(polynomial(words, -x, x, kind) for kind in POLYNOMIALS),
+                rational(words, (two,), -x, x),
+                *(fraction([0, *terms], mode, -x, x) for mode in range(3))):
+            yield from at_both_signs(formula, x)
+
+
+def opposite_arguments(rng):
+    """Odd and even formulas of every form at x and -x, anywhere."""
+    for form in (*ODD_FORMS, *EVEN_FORMS) * 20:
+        formula = formula_of_form(rng, *form)
+        sheet = sheet_of([formula])
+        for x in (formula.hi, rng.randrange(formula.hi + 1)):
+            yield ask_evaluate(sheet, 1, x)
+            yield ask_evaluate(sheet, 1, -x)
 
 
 def quotients(rng):
@@ -379,14 +423,23 @@ def both_signs(pattern):
 
 
 def doubles_at_steps(rng):
-    """Doubles that are exact steps, ties of both signs, and next to a tie:
-    the identity shows the word that each becomes."""
+    """Doubles that are exact steps, ties, and next to a tie, each with either
+    sign: the identity shows the word that it becomes."""
     sheet = sheet_of([IDENTITY])
-    for _ in range(150):
-        n = word(rng)
+    for n in (*range(10), *(abs(word(rng)) for _ in range(140))):
         tie = pattern_of(2 * n + 1, -25)
         for pattern in (pattern_of(n), tie - 1, tie, tie + 1):
-            yield ask_double(sheet, 1, pattern)
+            for either in both_signs(pattern):
+                yield ask_double(sheet, 1, either)
+
+
+def half_steps_about(sheet, end):
+    """Doubles half a step to either side of an interval's end, and next to
+    those."""
+    for half in (2 * end - 1, 2 * end + 1):
+        pattern = pattern_of(half, -25)
+        for near in (pattern - 1, pattern, pattern + 1):
+            yield ask_double(sheet, 1, near)
 
 
 def doubles_at_the_ends(rng):
@@ -400,10 +453,34 @@ def doubles_at_the_ends(rng):
             yield ask_interval(sheet, 1)
             for end in (formula.lo, formula.hi):
                 yield ask_double(sheet, 1, pattern_of(end))
-                for half in (2 * end - 1, 2 * end + 1):
-                    pattern = pattern_of(half, -25)
-                    for near in (pattern - 1, pattern, pattern + 1):
-                        yield ask_double(sheet, 1, near)
+                yield from half_steps_about(sheet, end)
+
+
+def half_steps_at_the_ends(rng):
+    """Half steps about ends of either sign, at 0 and next to it, and where the
+    words end, for every kind."""
+    for lo, hi in ((4, 9), (-9, -4), (-9, 9), (0, 0), (0, 1), (-1, 0), (1, 1),
+                   (-1, -1), (-M, M), (1 - M, M - 1), (M, M), (-M, -M)):
+        for formula in (polynomial((0, ONE), lo, hi),
+                        rational((0, ONE), (ONE,), lo, hi),
+                        fraction((0, ONE, ONE), 0, lo, hi),
+                        Formula(ROOT, 1, lo, hi, 0, 0, 0, ()),
+                        polynomial((ONE,), lo, hi, ODD),
+                        polynomial((0, ONE), lo, hi, EVEN)):
+            if verdict(formula) == 0:
+                for end in sorted({lo, hi}):
+                    yield from half_steps_about(sheet_of([formula]), end)
+
+
+def half_steps_through_formulas(rng):
+    """Formulas that meet ties, at doubles that are ties themselves: half a
+    step from x and from -x, towards 0 and away from it (10)."""
+    for form in (*ODD_FORMS, *EVEN_FORMS, *OTHER_FORMS) * 10:
+        formula = tied_formula(rng, *form)
+        sheet = sheet_of([formula])
+        for half in (2 * formula.hi - 1, 2 * formula.hi + 1):
+            for either in both_signs(pattern_of(half, -25)):
+                yield ask_double(sheet, 1, either)
 
 
 def special_doubles(rng):
@@ -470,9 +547,11 @@ def doubles_through_formulas(rng):
 GROUPS = (
     checked_by_hand, polynomial_limits, last_products, squares_alone,
     values_between_the_ends, rational_limits, quotient_limits,
-    seven_and_eight_in_rationals, fraction_limits, products_in_fractions,
-    squares_in_fractions, product_ties, ties_with_squares, rounded_squares,
-    quotient_ties, quotients, roots, fractions, long_polynomials,
-    full_polynomials, odd_and_even_arguments, the_same_under_three_kinds,
-    doubles_at_steps, doubles_at_the_ends, special_doubles, largest_doubles,
-    random_doubles, doubles_through_formulas)
+    seven_and_eight_in_rationals, odd_divisors, fraction_limits,
+    products_in_fractions, squares_in_fractions, product_ties,
+    ties_with_squares, rounded_squares, quotient_ties, ties_at_several_steps,
+    powers_of_two, opposite_arguments, quotients, roots, fractions,
+    long_polynomials, full_polynomials, odd_and_even_arguments,
+    the_same_under_three_kinds, doubles_at_steps, doubles_at_the_ends,
+    half_steps_at_the_ends, half_steps_through_formulas, special_doubles,
+    largest_doubles, random_doubles, doubles_through_formulas)

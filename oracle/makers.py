@@ -4,11 +4,12 @@ Only whole-number draws are used (getrandbits, randrange, choice).
 """
 
 from struct import pack
+from typing import NamedTuple
 
 from formulas import (
-    FRACTION, ODD, POLYNOMIAL, ROOT, SHAPES, Formula, bounds, factor, verdict,
-    word_count)
-from number import M, ONE, bound_product, bound_quotient
+    EVEN, FRACTION, ODD, POLYNOMIAL, RATIONAL, ROOT, SHAPES, Formula, bounds,
+    factor, polynomial, verdict, word_count)
+from number import M, ONE, bound_product, bound_quotient, product, quotient
 from sheet import END, START
 from writing import record_of, start_or_end
 
@@ -120,6 +121,136 @@ def full_polynomial(rng, kind):
         words = most_below(upper), *map(abs, upper.words)
         if words[0] >= 0:
             return upper._replace(p=len(words), words=words)
+
+
+# Odd and even formulas, and formulas that meet ties (request M-101).
+
+
+class Form(NamedTuple):
+    """A kind, the powers that each of its polynomials has (1 the odd ones, 0
+    the even ones, None all) and a mode; in mode 2, b0 is 0."""
+
+    kind: int
+    powers: tuple = (None, None)
+    mode: int = 0
+
+
+# In these, in turn, the answer at -x is the negated one at x, the same, or
+# neither. None has an odd divisor: Admission takes none, as its d0 is 0.
+ODD_FORMS = (Form(ODD), Form(POLYNOMIAL, (1, None)), Form(RATIONAL, (1, 0)),
+             Form(FRACTION, mode=2))
+EVEN_FORMS = (Form(EVEN), Form(POLYNOMIAL, (0, None)), Form(RATIONAL, (0, 0)),
+              Form(FRACTION, mode=1))
+OTHER_FORMS = Form(POLYNOMIAL), Form(RATIONAL), Form(FRACTION)
+
+
+def thinned(words, powers):
+    """The coefficients of some powers; the others are 0."""
+    return tuple(c if powers in (None, k % 2) else 0
+                 for k, c in enumerate(words))
+
+
+def formula_of_form(rng, kind, powers, mode):
+    """A formula about 0, of a form; accepted unless its divisor is odd, since
+    zeros put in make no bound larger."""
+    drawn = good_formula(rng, kind, mode=mode)
+    a, p = largest(drawn), drawn.p
+    words = thinned(drawn.words[:p], powers[0])
+    words += thinned(drawn.words[p:], powers[1])
+    if mode == 2:
+        words = 0, *words[1:]
+    return drawn._replace(lo=-a, hi=a, words=words)
+
+
+def twos(n):
+    """How many times 2 divides n, which is not 0."""
+    return (n & -n).bit_length() - 1
+
+
+def tied_factor(rng, x):
+    """A word whose product with x is a tie; x is no multiple of one."""
+    return signed(rng, 2 * rng.randrange(8) + 1 << 23 - twos(x))
+
+
+def tied_divisor(rng, n):
+    """A number by which n has a tie as its quotient; n is not 0."""
+    return signed(rng, 1 << 25 + twos(n))
+
+
+def tied_argument(rng):
+    """A word between 0 and 2 of 1 to 12 binary places, mostly few, so that s
+    is exact and, like x, no multiple of one."""
+    places = rng.choice((1, 1, 2, 3, 4 + rng.randrange(9)))
+    return 2 * rng.randrange(1 << places) + 1 << 24 - places
+
+
+def tied_walk(rng, count, x, powers=None):
+    """Coefficients that make every product of the walk at x a tie, or, with
+    some powers alone, every second one and others now and then."""
+    words = []
+    running = 0
+    for k in reversed(range(count)):
+        taken = product(running, x)
+        running = tied_factor(rng, x) if powers in (None, k % 2) else taken
+        words.append(running - taken)
+    return tuple(reversed(words))
+
+
+def aimed(words, x, value):
+    """The coefficients with another c0, so that the answer at x is `value`."""
+    return words[0] + value - polynomial(words, x), *words[1:]
+
+
+def tied_polynomial(rng, kind, count, powers, x):
+    """Coefficients of one of the three kinds with ties in the walk, and with
+    one as an odd formula's last product."""
+    if kind == POLYNOMIAL:
+        return tied_walk(rng, count, x, powers)
+    s = product(x, x)
+    words = tied_walk(rng, count, s)
+    return aimed(words, s, tied_factor(rng, x)) if kind == ODD else words
+
+
+def tied_rational(rng, p, q, powers, x):
+    """Numerator and divisor with ties in both walks, and with one as their
+    quotient."""
+    numerator = tied_walk(rng, p, x, powers[0])
+    divisor = tied_walk(rng, q, x, powers[1])
+    n = polynomial(numerator, x) or 1
+    return numerator + aimed(divisor, x, tied_divisor(rng, n))
+
+
+def tied_fraction(rng, depth, mode, x):
+    """b0, a1, b1, ... that make every product and every quotient at x a tie;
+    b0 is 0."""
+    s = product(x, x)
+    words = []
+    q = 0
+    for j in range(depth, 0, -1):
+        v = factor(mode, j, x, s)
+        a = tied_factor(rng, v)
+        g = product(a, v)
+        t = tied_divisor(rng, g)
+        words += [t - q, a]
+        q = quotient(g, t)
+    return 0, *reversed(words)
+
+
+def tied_formula(rng, kind, powers=(None, None), mode=0):
+    """An accepted formula of a form on -x to x that meets ties at x, and, if
+    it is odd or even, at -x."""
+    shape = SHAPES[kind]
+    while True:
+        x, p, q = tied_argument(rng), rng.choice(shape.p), rng.choice(shape.q)
+        if kind == FRACTION:
+            words = tied_fraction(rng, p, mode, x)
+        elif kind == RATIONAL:
+            words = tied_rational(rng, p, q, powers, x)
+        else:
+            words = tied_polynomial(rng, kind, p, powers[0], x)
+        formula = Formula(kind, 1, -x, x, p, q, mode, words)
+        if verdict(formula) == 0:
+            return formula
 
 
 def good_formulas(rng, count):

@@ -17,12 +17,13 @@ def is_word(n):
 
 
 def nearest(a, d):
-    """a / d rounded to the nearest whole number, a tie going upward.
+    """a / d rounded to the nearest whole number, a tie going away from zero
+    (request M-101).
 
-    This is the floor of a/d + 1/2. Python's // is the floor of the exact
-    quotient whatever the signs, so a negative d needs no case of its own.
+    Its size is the floor of |a|/|d| + 1/2; its sign is that of a / d.
     """
-    return (2 * a + d) // (2 * d)
+    size = (2 * abs(a) + abs(d)) // (2 * abs(d))
+    return size if (a < 0) == (d < 0) else -size
 
 
 def rounded_up(a, d):

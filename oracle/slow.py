@@ -1,7 +1,7 @@
 """Slow, obvious definitions for the self-test, in exact fractions.
 
-Each follows a sentence of the paper, or of request M-100, word by word and
-shares no arithmetic with the modules it is compared with.
+Each follows a sentence of the paper, or of a request, word by word and shares
+no arithmetic with the modules it is compared with.
 """
 
 from fractions import Fraction
@@ -13,9 +13,14 @@ LARGEST = 2**31 - 1
 
 
 def nearest(value):
-    """'Rounded to the nearest whole number, a tie going upward.'"""
+    """'Rounded to the nearest whole number'; of two equally near, the one that
+    is further from zero ('a tie goes away from zero')."""
     below = value.numerator // value.denominator
-    return below if value - below < below + 1 - value else below + 1
+    above = below + 1
+    down, up = value - below, above - value
+    if down == up:
+        return max(below, above, key=abs)
+    return below if down < up else above
 
 
 def upward(value):

@@ -14,7 +14,13 @@ OddPowers ws = (k : ℕ) → getD ws (k + k) (pos 0) ≡ pos 0
 abbrev pub EvenPowers : List ℤ → Type 0
 EvenPowers ws = (k : ℕ) → getD ws (k + k + 1) (pos 0) ≡ pos 0
 
--- ---- worked examples: x + x³ is odd, and not where there is a square; 1 + x² is even, and not where there is a cube
+-- ---- worked examples. What is not odd: 1 + x, x + x²; and what is: x + x³
+with-one : OddPowers (pos 1 ∷ pos 1 ∷ []) → ⊥
+with-one f = omega (arith, ap natAbs (f 0))
+
+with-a-square : OddPowers (pos 0 ∷ pos 1 ∷ pos 1 ∷ []) → ⊥
+with-a-square f = omega (arith, ap natAbs (f 1))
+
 abbrev pub cubic : List ℤ
 cubic = pos 0 ∷ pos 1 ∷ pos 0 ∷ pos 1 ∷ []
 
@@ -23,8 +29,12 @@ cubic-is-odd zero = refl
 cubic-is-odd (suc zero) = refl
 cubic-is-odd (suc (suc k)) = let e : suc (suc k) + suc (suc k) ≡ suc (suc (suc (suc (k + k)))) = omega arith in ap (λ (i : ℕ). getD cubic i (pos 0)) e
 
-with-a-square : OddPowers (pos 0 ∷ pos 1 ∷ pos 1 ∷ []) → ⊥
-with-a-square f = omega (arith, ap natAbs (f 1))
+-- what is not even: 1 + x, 1 + x³; and what is: 1 + x²
+with-x : EvenPowers (pos 1 ∷ pos 1 ∷ []) → ⊥
+with-x f = omega (arith, ap natAbs (f 0))
+
+with-a-cube : EvenPowers (pos 1 ∷ pos 0 ∷ pos 0 ∷ pos 1 ∷ []) → ⊥
+with-a-cube f = omega (arith, ap natAbs (f 1))
 
 abbrev pub square : List ℤ
 square = pos 1 ∷ pos 0 ∷ pos 1 ∷ []
@@ -32,6 +42,3 @@ square = pos 1 ∷ pos 0 ∷ pos 1 ∷ []
 pub square-is-even : EvenPowers square
 square-is-even zero = refl
 square-is-even (suc k) = let e : suc k + suc k + 1 ≡ suc (suc (suc (k + k))) = omega arith in ap (λ (i : ℕ). getD square i (pos 0)) e
-
-with-a-cube : EvenPowers (pos 1 ∷ pos 0 ∷ pos 1 ∷ pos 1 ∷ []) → ⊥
-with-a-cube f = omega (arith, ap natAbs (f 1))
