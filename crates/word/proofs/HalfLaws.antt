@@ -25,7 +25,3 @@ half-same a d b c D C e =
     half-is a d (halfUp b c) D
     (le-of-mul-le-mul-left {k = c} (omega (arith, mul-le-mul-left d (half-low b c C))) C)
     (lt-of-mul-lt-mul-left c (omega (arith, mul-lt-mul-of-pos-left (half-high b c C) D)))
-
--- as a division works it out: half of the divisor is added first. It may be rounded down, for by an odd divisor there is no tie
-pub half-added : (a d : ℕ) → 0 < d → (a + d / 2) / d ≡ halfUp a d
-half-added a d h = sym (half-is a d ((a + d / 2) / d) h (omega (arith, div-add-mod (a + d / 2) d)) (omega (arith, div-add-mod (a + d / 2) d, mod-lt (a + d / 2) h)))

@@ -1,7 +1,8 @@
 -- The laws of rounding: odd, how near, how large, exact where it divides, where a tie goes, and that these determine the result. They are laws of
 -- naturals, carried to the numbers below zero. A change of the tie rule changes `rounded-odd`, `rounded-tie`, `rounded-determined` and what the
 -- functions use; the other laws keep their statements.
-use Rattle.whole.proofs.Basics.{_≡_, _∙_, refl, sym, ap, ℕ, suc, zero, _+_, _-_, _*_, _/_, _≤_, _<_, arith, ℤ, pos, negsuc, negℤ, natAbs, _+ℤ_, _-ℤ_, _*ℤ_}
+use Rattle.whole.proofs.Basics.{_≡_, _∙_, refl, sym, ap, ap₂, not, ℕ, suc, zero, _+_, _-_, _*_, _/_, _≤_, _<_, arith, ℤ, pos, negsuc, negℤ, natAbs, _+ℤ_, _-ℤ_, _*ℤ_}
+use mathlib.Core.Bool.{Bool·beq}
 use native.Mathlib.Decide.{decLe}
 use native.Mathlib.Nat.{div-add-mod, div-zero, mod-lt, lt-of-mul-lt-mul-left}
 use lib.IntN.{negℤ-negℤ}
@@ -10,8 +11,8 @@ use Rattle.whole.proofs.Diff.{P, N, v, n, _⊕_, _⊗_, _⊝_, ⊖_, same, same
 use Rattle.whole.proofs.Floor.{FloorOf, floor-of}
 use Rattle.whole.proofs.Order.{abs-neg}
 use Rattle.word.specs.Rounded.{halfUp, rounded, roundedUp}
-use Rattle.word.specs.Words.{NotZero, belowZero, withSign}
-use Rattle.word.proofs.HalfLaws.{half-low, half-high, half-is, half-zero, half-same, half-added}
+use Rattle.word.specs.Words.{belowZero, withSign}
+use Rattle.word.proofs.HalfLaws.{half-low, half-high, half-is, half-zero, half-same}
 
 -- ---- rounded up
 pub up-above : (a d : ℕ) → 0 < d → a ≤ roundedUp a d * d
@@ -138,16 +139,18 @@ shifted-is (negsuc a) h d f e = sym (at (shrZ z d) (floor-of z d f))
     at (pos (suc k)) g = absurd (omega (arith, g .low, (v (negsuc a) ⊕ v (negsuc 0) ⊕ n h) .is))
     at (negsuc k) g = from-odd a d (negsuc k) (natural (suc a) d (suc k) f (omega (arith, g .high, (v (negsuc a) ⊕ v (negsuc 0) ⊕ n h) .is)) (omega (arith, g .low, (v (negsuc a) ⊕ v (negsuc 0) ⊕ n h) .is)))
 
--- ---- for the function that divides, and so rounds towards zero: half of the divisor's size is added away from zero first
-further : (a h : ℕ) → negsuc a +ℤ negℤ (pos h) ≡ negsuc (a + h)
-further a h = same (v (negsuc a) ⊕ ⊖ n h) (v (negsuc (a + h))) (omega arith)
+-- ---- for the function that divides 2·m by 2·d, and so rounds towards zero: d is added first, away from zero
+twice : (k : ℕ) → suc (suc (k + k)) ≡ suc k + suc k
+twice k = omega arith
 
-half-further : (a d : ℕ) → 0 < d → suc (a + d / 2) / d ≡ halfUp (suc a) d
-half-further a d h = let e : suc (a + d / 2) ≡ suc a + d / 2 = omega arith in ap (λ (k : ℕ). k / d) e ∙ half-added (suc a) d h
-
-pub divided-is : (m d : ℤ) → NotZero d → quotZ (m +ℤ withSign (belowZero m) (pos (natAbs d / 2))) d ≡ rounded (withSign (belowZero d) m) (natAbs d)
+pub divided-is : (m d : ℤ) → quotZ (m +ℤ m +ℤ withSign (not (Bool·beq (belowZero m) (belowZero d))) d) (d +ℤ d) ≡ rounded (withSign (belowZero d) m) (natAbs d)
 unfolding rounded
-divided-is (pos a) (pos b) h = ap pos (half-added a b h)
-divided-is (pos a) (negsuc b) h = ap (λ (k : ℕ). negℤ (pos k)) (half-added a (suc b) h) ∙ sym (rounded-odd (pos a) (suc b))
-divided-is (negsuc a) (pos b) h = ap (λ (z : ℤ). quotZ z (pos b)) (further a (b / 2)) ∙ ap (λ (k : ℕ). negℤ (pos k)) (half-further a b h)
-divided-is (negsuc a) (negsuc b) h = ap (λ (z : ℤ). quotZ z (negsuc b)) (further a (suc b / 2)) ∙ ap pos (half-further a (suc b) h)
+divided-is (pos a) (pos b) = refl
+divided-is (pos a) (negsuc b) = ap (λ (k : ℕ). negℤ (pos ((a + a + suc b) / k))) (twice b) ∙ sym (rounded-odd (pos a) (suc b))
+divided-is (negsuc a) (pos b) =
+    let e : suc (suc (a + a) + b) ≡ suc a + suc a + b = omega arith in
+    ap (λ (z : ℤ). quotZ z (pos (b + b))) (same (v (negsuc (suc (a + a))) ⊕ ⊖ n b) (v (negsuc (suc (a + a) + b))) (omega arith))
+    ∙ ap (λ (k : ℕ). negℤ (pos (k / (b + b)))) e
+divided-is (negsuc a) (negsuc b) =
+    let e : suc (suc (suc (a + a) + b)) ≡ suc a + suc a + suc b = omega arith in
+    ap₂ (λ (k j : ℕ). pos (k / j)) e (twice b)

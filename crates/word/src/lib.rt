@@ -66,14 +66,15 @@ pub fn product(a: i32, b: i32, s: u32) -> i64
     rounded_shift(times(a as i64, b as i64), s)
 }
 
-// The division rounds towards zero, so half of the divisor's size is added first, with the dividend's sign.
+// 2·m / 2·d, whose divisor has a half. The division rounds towards zero, so that half is added first, away from zero: with the sign of the quotient.
 pub fn quotient(a: i32, d: i32, s: u32) -> i64
     requires { ⌜ Division s a d ⌝ }
     ensures { λ r. ⌜ r ≡ quotientOf s a d ⌝ }
 {
     let m = (a as i64) << (s as i64);
-    let half = with_sign(a < 0, (magnitude(d) / 2) as i64);
-    (m + half) / (d as i64)
+    let e = d as i64;
+    let half = with_sign((a < 0) != (d < 0), e);
+    (m + m + half) / (e + e)
 }
 
 // The first factor is the size of a 32-bit pattern at most, so that the product fits.

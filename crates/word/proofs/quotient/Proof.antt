@@ -1,10 +1,12 @@
--- `word::quotient` meets its contract: the scaled dividend and half of the divisor's size are what `divided-is` speaks of, and nothing wraps.
-use Rattle.whole.proofs.Basics.{_≡_, _∙_, ap, ap₂, ℕ, _*_, _/_, _%_, _^_, _≤_, _<_, arith, ℤ, pos, natAbs, _+ℤ_, _*ℤ_, w32, w64, toZ, ofZ, ltZ, needs}
+-- `word::quotient` meets its contract: twice the scaled dividend, with the divisor added away from zero, is what `divided-is` speaks of, and nothing
+-- wraps.
+use Rattle.whole.proofs.Basics.{_≡_, _∙_, ap, ap₂, not, ℕ, _*_, _%_, _^_, _<_, arith, ℤ, pos, natAbs, _+ℤ_, _*ℤ_, w32, w64, toZ, ofZ, ltZ, needs}
+use mathlib.Core.Bool.{Bool, Bool·beq}
 use lib.Pow.{pow-pos}
 use lib.Signed.{quotZ}
-use Rattle.whole.proofs.Diff.{n}
-use Rattle.whole.proofs.Fit.{fit, fit-abs}
-use Rattle.whole.proofs.Held.{back, Held, fits-code, held, held-nat, arg, known, wider, shl, quot, divisor, quot-fits}
+use Rattle.whole.proofs.Diff.{v, _⊕_, size}
+use Rattle.whole.proofs.Fit.{fit-abs}
+use Rattle.whole.proofs.Held.{back, Held, fits-code, held, held-nat, arg, known, wider, shl, plus, quot, divisor, quot-fits}
 use Rattle.whole.proofs.Order.{abs-add, abs-mul}
 use Rattle.word.specs.Words.{belowZero, withSign}
 use Rattle.word.proofs.RoundedLaws.{divided-is}
@@ -27,6 +29,16 @@ module _ (c : tie.Start) where
   abbrev m : ℤ
   m = a *ℤ pos u
 
+  -- whether the signs differ, and the divisor with the quotient's sign
+  abbrev sign : Bool
+  sign = not (Bool·beq (belowZero m) (belowZero d))
+
+  abbrev half : ℤ
+  half = withSign sign d
+
+  abbrev sum : ℤ
+  sum = m +ℤ m +ℤ half
+
   held-a : Held w64 (back w32 a) a
   held-a = wider tt (arg (c .fits .a))
 
@@ -39,47 +51,48 @@ module _ (c : tie.Start) where
   m-is : toZ w64 (ofZ w64 (back w32 a) * u % 2 ^ 64) ≡ m
   m-is = shl u (pow-pos (c .args .s)) held-a (fit-abs (omega (arith, m-most)))
 
-  -- half of the divisor's size, with the dividend's sign
-  abbrev half : ℤ
-  half = withSign (belowZero m) (pos (natAbs d / 2))
-
   half-most : natAbs half < 2 ^ 31
-  half-most = omega (arith, sign-abs (belowZero m) (pos (natAbs d / 2)), c .pre .2)
+  half-most = omega (arith, sign-abs sign d, c .pre .2)
 
-  sum-most : natAbs (m +ℤ half) < 2 ^ 61
-  sum-most = omega (arith, abs-add m half, m-most, half-most)
+  sum-most : natAbs sum < 2 ^ 62
+  sum-most = omega (arith, abs-add (m +ℤ m) half, abs-add m m, m-most, half-most)
 
-module _ (c : tie.After-magnitude) where
-  abbrev size : ℕ
-  size = c .magnitude .result / 2
+  abbrev twice : ℤ
+  twice = toZ w64 (ofZ w64 (back w32 a) * u % 2 ^ 64) +ℤ toZ w64 (ofZ w64 (back w32 a) * u % 2 ^ 64)
 
-  held-size : Held w64 (pos size) (pos (natAbs (d (c .before)) / 2))
-  held-size =
-      let e = c .magnitude .ensures ∙ held-nat (arg (c .before .fits .d)) in
-      known (ap (λ (k : ℕ). pos (k / 2)) e) (fit (n (natAbs (d (c .before)) / 2)) (omega (arith, c .before .pre .2)))
+  held-twice : Held w64 twice (m +ℤ m)
+  held-twice = known (ap₂ _+ℤ_ m-is m-is) (fit-abs (omega (arith, abs-add m m, m-most)))
+
+  held-divisor : Held w64 (back w64 (back w32 d) +ℤ back w64 (back w32 d)) (d +ℤ d)
+  held-divisor = plus held-d held-d (fit-abs (omega (arith, abs-add d d, c .pre .2)))
 
 module _ (c : tie.After-with-sign) where
   abbrev start : tie.Start
-  start = c .before .before
+  start = c .before
 
-  sign-is : ltZ (back w32 (a start)) (pos 0) ≡ belowZero (m start)
-  sign-is = ap (λ (z : ℤ). ltZ z (pos 0)) (held (arg (start .fits .a))) ∙ below-is (a start) ∙ below-scaled (a start) (u start) (pow-pos (start .args .s))
+  negative : (x : ℤ) → back w32 x ≡ x → ltZ (back w32 x) (pos 0) ≡ belowZero x
+  negative x e = ap (λ (z : ℤ). ltZ z (pos 0)) e ∙ below-is x
+
+  sign-is : not (Bool·beq (ltZ (back w32 (a start)) (pos 0)) (ltZ (back w32 (d start)) (pos 0))) ≡ sign start
+  sign-is =
+      ap₂ (λ (x y : Bool). not (Bool·beq x y))
+      (negative (a start) (held (arg (start .fits .a))) ∙ below-scaled (a start) (u start) (pow-pos (start .args .s)))
+      (negative (d start) (held (arg (start .fits .d))))
 
   held-half : Held w64 (c .with-sign .result) (half start)
-  held-half = known (c .with-sign .ensures ∙ ap₂ withSign sign-is (held (held-size (c .before)))) (fit-abs (omega (arith, half-most start)))
+  held-half = known (c .with-sign .ensures ∙ ap₂ withSign sign-is (held (held-d start))) (fit-abs (omega (arith, half-most start)))
 
-  held-sum : Held w64 (toZ w64 (ofZ w64 (back w32 (a start)) * u start % 2 ^ 64) +ℤ back w64 (c .with-sign .result)) (m start +ℤ half start)
-  held-sum = known (ap₂ _+ℤ_ (m-is start) (held held-half)) (fit-abs (omega (arith, sum-most start)))
+  held-sum : Held w64 (back w64 (twice start) +ℤ back w64 (c .with-sign .result)) (sum start)
+  held-sum = plus (held-twice start) held-half (fit-abs (omega (arith, sum-most start)))
 
-  held-quotient : Held w64 (quotZ (back w64 (toZ w64 (ofZ w64 (back w32 (a start)) * u start % 2 ^ 64) +ℤ back w64 (c .with-sign .result))) (back w64 (back w32 (d start)))) (quotZ (m start +ℤ half start) (d start))
-  held-quotient = quot held-sum (held-d start) (quot-fits (m start +ℤ half start) (d start) (omega (arith, sum-most start)))
+  held-quotient : Held w64 (quotZ (back w64 (back w64 (twice start) +ℤ back w64 (c .with-sign .result))) (back w64 (back w64 (back w32 (d start)) +ℤ back w64 (back w32 (d start))))) (quotZ (sum start) (d start +ℤ d start))
+  held-quotient = quot held-sum (held-divisor start) (quot-fits (sum start) (d start +ℤ d start) (omega (arith, sum-most start)))
 
 -- ---- the needs
-with-sign-requires : tie.Need-with-sign-requires
-with-sign-requires c κs = omega (arith, held-nat (held-size c), c .before .pre .2)
-
-returns : tie.Need-returns
-returns c = held (held-quotient c) ∙ divided-is (m (start c)) (d (start c)) (start c .pre .3)
+div-result : tie.Need-div-result
+div-result c =
+    let s = start c in
+    (divisor (held-divisor s) (omega (arith, size (v (d s) ⊕ v (d s)), size (v (d s)), s .pre .3)), fits-code (held-quotient c))
 
 pub quotient-spec : {M : Type 1} → statement M
 quotient-spec =
@@ -88,10 +101,10 @@ quotient-spec =
     (λ c. fits-code (held-a c))
     (λ c. search needs)
     (λ c. search needs)
-    (λ c κs. search needs)
-    (λ c. search needs)
-    with-sign-requires
+    (λ c. fits-code (held-d c))
+    (λ c κs. omega (arith, held-nat (held-d c), c .pre .2))
+    (λ c. fits-code (held-twice (start c)))
     (λ c. fits-code (held-sum c))
-    (λ c. fits-code (held-d (start c)))
-    (λ c. (divisor (held-d (start c)) (start c .pre .3), fits-code (held-quotient c)))
-    returns)
+    (λ c. fits-code (held-divisor (start c)))
+    div-result
+    (λ c. held (held-quotient c) ∙ divided-is (m (start c)) (d (start c))))
