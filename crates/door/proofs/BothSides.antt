@@ -6,8 +6,7 @@ use Rattle.whole.proofs.Order.{abs-neg}
 use Rattle.word.specs.Rounded.{rounded}
 use Rattle.word.specs.Words.{largest, withSign}
 use Rattle.word.proofs.RoundedLaws.{rounded-odd}
-use Rattle.door.specs.declared.answer.Taken.{Taken}
-use Rattle.door.specs.declared.answer.Taken.the-variants.{Word, NoWord, NotFinite}
+use Rattle.door.specs.declared.answer.Taken.the-variants.{Word, NoWord}
 use Rattle.door.specs.Taken.{numerator, argumentOf, asWord, takenOf, negatedTaken}
 
 other-sign : (t : Bool) (z : ℤ) → withSign (not t) z ≡ negℤ (withSign t z)

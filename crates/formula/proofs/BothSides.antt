@@ -1,5 +1,5 @@
 -- An odd formula answers at -x exactly the negated answer, and an even one the same: kind by kind.
-use Rattle.whole.proofs.Basics.{_≡_, _∙_, sym, ap, _⊎_, inl, inr, List, ℕ, take, drop, ℤ, negℤ}
+use Rattle.whole.proofs.Basics.{_≡_, inl, inr, List, ℕ, take, drop, ℤ, negℤ}
 use Rattle.polynomial.proofs.BothSides.{polynomial-negated, polynomial-same}
 use Rattle.odd_even.proofs.BothSides.{odd-negated, even-same}
 use Rattle.rational.proofs.BothSides.{odd-over-even, even-over-odd, even-over-even, odd-over-odd}

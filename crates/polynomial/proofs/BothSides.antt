@@ -1,6 +1,6 @@
 -- An odd polynomial answers at -x exactly the negated answer, and an even one the same. The walk carries both at once, since each coefficient
 -- makes one of the other.
-use Rattle.whole.proofs.Basics.{_≡_, _∙_, refl, sym, ap, List, [], _∷_, ℕ, suc, _+_, arith, ℤ, pos, negℤ, _+ℤ_}
+use Rattle.whole.proofs.Basics.{_≡_, _∙_, refl, ap, List, [], _∷_, ℕ, suc, _+_, arith, ℤ, pos, negℤ, _+ℤ_}
 use lib.ListN.{getD}
 use Rattle.whole.proofs.Diff.{v, n, _⊕_, ⊖_, same}
 use Rattle.word.specs.Words.{productOf}

@@ -1,5 +1,5 @@
 -- The laws of naturals that are rounded to the nearest: the result is the one q with 2·d·q ≤ 2·a + d < 2·d·q + 2·d.
-use Rattle.whole.proofs.Basics.{_≡_, refl, sym, ℕ, suc, zero, _+_, _*_, _/_, _≤_, _<_, arith}
+use Rattle.whole.proofs.Basics.{_≡_, refl, ℕ, suc, zero, _+_, _*_, _≤_, _<_, arith}
 use native.Mathlib.Nat.{div-add-mod, mod-lt, mul-le-mul-left, le-of-mul-le-mul-left, lt-of-mul-lt-mul-left, mul-lt-mul-of-pos-left}
 use Rattle.word.specs.Rounded.{halfUp}
 

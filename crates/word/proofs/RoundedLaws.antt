@@ -7,7 +7,7 @@ use native.Mathlib.Decide.{decLe}
 use native.Mathlib.Nat.{div-add-mod, div-zero, mod-lt, lt-of-mul-lt-mul-left}
 use lib.IntN.{negℤ-negℤ}
 use lib.Signed.{shrZ, quotZ}
-use Rattle.whole.proofs.Diff.{P, N, v, n, _⊕_, _⊗_, _⊝_, ⊖_, same, same-out, size}
+use Rattle.whole.proofs.Diff.{v, n, _⊕_, _⊗_, _⊝_, ⊖_, same, same-out, size}
 use Rattle.whole.proofs.Floor.{FloorOf, floor-of}
 use Rattle.whole.proofs.Order.{abs-neg}
 use Rattle.word.specs.Rounded.{halfUp, rounded, roundedUp}
