@@ -1,5 +1,5 @@
 -- Promise: an odd formula of an accepted sheet answers at -x exactly the negated answer, and an even one the same, where both arguments lie in its
--- interval.
+-- interval: there the sheet's answer is the formula's own.
 use Rattle.whole.proofs.Basics.{_≡_, _∙_, sym, ap, List, ℕ, ℤ, negℤ, _≤ℤ_}
 use Rattle.formula.specs.declared.Formula.{Formula}
 use Rattle.formula.specs.Parity.{OddFormula, EvenFormula}
@@ -11,19 +11,21 @@ use Rattle.answering.specs.declared.answers.Evaluation.{Evaluation}
 use Rattle.board.specs.Board.{evaluated}
 use Rattle.board.proofs.AnswersInside.{formulaGiven, answers-inside}
 
--- the formula n of an accepted sheet that has it, at x and -x in its interval
-module _ (s : ℕ) (bytes : List ℕ) (n : ℕ) (given : HasFormula s bytes n) (x : ℤ) where
+-- the formula n of an accepted sheet that has it
+module _ (s : ℕ) (bytes : List ℕ) (n : ℕ) (given : HasFormula s bytes n) where
   abbrev f : Formula
   f = formulaGiven s bytes n
 
-  pub sheet-negated : OddFormula (f .shape) (wordsIn f) → f .lo ≤ℤ x → x ≤ℤ f .hi → f .lo ≤ℤ negℤ x → negℤ x ≤ℤ f .hi → evaluated s bytes n (negℤ x) ≡ answered (negℤ (evaluationWord (evaluated s bytes n x)))
-  sheet-negated o l h l′ h′ =
-      answers-inside s bytes n given (negℤ x) l′ h′
-      ∙ ap answered (formula-negated s (f .shape) (wordsIn f) x o)
-      ∙ ap (λ (e : Evaluation). answered (negℤ (evaluationWord e))) (sym (answers-inside s bytes n given x l h))
+  -- at x and -x, both in its interval
+  module _ (x : ℤ) (l : f .lo ≤ℤ x) (h : x ≤ℤ f .hi) (l′ : f .lo ≤ℤ negℤ x) (h′ : negℤ x ≤ℤ f .hi) where
+    pub sheet-negated : OddFormula (f .shape) (wordsIn f) → evaluated s bytes n (negℤ x) ≡ answered (negℤ (evaluationWord (evaluated s bytes n x)))
+    sheet-negated o =
+        answers-inside s bytes n given (negℤ x) l′ h′
+        ∙ ap answered (formula-negated s (f .shape) (wordsIn f) x o)
+        ∙ ap (λ (e : Evaluation). answered (negℤ (evaluationWord e))) (sym (answers-inside s bytes n given x l h))
 
-  pub sheet-same : EvenFormula (f .shape) (wordsIn f) → f .lo ≤ℤ x → x ≤ℤ f .hi → f .lo ≤ℤ negℤ x → negℤ x ≤ℤ f .hi → evaluated s bytes n (negℤ x) ≡ evaluated s bytes n x
-  sheet-same e l h l′ h′ =
-      answers-inside s bytes n given (negℤ x) l′ h′
-      ∙ ap answered (formula-same s (f .shape) (wordsIn f) x e)
-      ∙ sym (answers-inside s bytes n given x l h)
+    pub sheet-same : EvenFormula (f .shape) (wordsIn f) → evaluated s bytes n (negℤ x) ≡ evaluated s bytes n x
+    sheet-same e =
+        answers-inside s bytes n given (negℤ x) l′ h′
+        ∙ ap answered (formula-same s (f .shape) (wordsIn f) x e)
+        ∙ sym (answers-inside s bytes n given x l h)

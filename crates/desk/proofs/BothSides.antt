@@ -1,9 +1,10 @@
 -- Promise: through the door, an odd formula of an accepted sheet answers a negated double with exactly the negated answer, and an even one with the
 -- same, where the word that the double rounds to and its negation lie in the interval: a negated double is taken as the negated word.
-use Rattle.whole.proofs.Basics.{_≡_, _∙_, sym, ap, List, ℕ, ℤ, negℤ, _≤ℤ_}
+use Rattle.whole.proofs.Basics.{_≡_, _∙_, sym, ap, subst, List, ℕ, ℤ, negℤ, _≤ℤ_}
 use lib.Ieee.{Float, neg}
 use Rattle.formula.specs.declared.Formula.{Formula}
 use Rattle.formula.specs.Parity.{OddFormula, EvenFormula}
+use Rattle.door.specs.Exact.{Exactly}
 use Rattle.door.specs.declared.answer.Taken.{Taken}
 use Rattle.door.specs.declared.answer.Taken.the-variants.{Word as Took}
 use Rattle.door.specs.Taken.{takenOf, negatedTaken}
@@ -15,7 +16,9 @@ use Rattle.answering.specs.declared.answers.Evaluation.{Evaluation}
 use Rattle.board.specs.Board.{whenGiven, evaluated}
 use Rattle.board.proofs.AnswersInside.{formulaGiven}
 use Rattle.board.proofs.BothSides.{sheet-negated, sheet-same}
-use Rattle.desk.specs.Desk.{takenBy, evaluatedDouble}
+use Rattle.desk.specs.Desk.{shownNumber, shownPlace, shownValue, takenBy, evaluatedDouble, ShownAs}
+use Rattle.desk.specs.declared.answers.Shown.{Shown}
+use Rattle.desk.proofs.SameNumbers.{shown-value}
 
 -- the formula n of a sheet, at a double that rounds to w
 module _ (s : ℕ) (bytes : List ℕ) (n : ℕ) (d : Float) (w : ℤ) (e : takenOf s d ≡ Took w) where
@@ -33,7 +36,11 @@ module _ (s : ℕ) (bytes : List ℕ) (n : ℕ) (d : Float) (w : ℤ) (e : taken
 
   module _ (given : HasFormula s bytes n) (l : f .lo ≤ℤ w) (h : w ≤ℤ f .hi) (l′ : f .lo ≤ℤ negℤ w) (h′ : negℤ w ≤ℤ f .hi) where
     pub double-negated : OddFormula (f .shape) (wordsIn f) → evaluatedDouble s bytes n (neg d) ≡ answered (negℤ (evaluationWord (evaluatedDouble s bytes n d)))
-    double-negated o = as-negated-word ∙ sheet-negated s bytes n given w o l h l′ h′ ∙ ap (λ (i : Evaluation). answered (negℤ (evaluationWord i))) (sym as-word)
+    double-negated o = as-negated-word ∙ sheet-negated s bytes n given w l h l′ h′ o ∙ ap (λ (i : Evaluation). answered (negℤ (evaluationWord i))) (sym as-word)
+
+    -- by the double that is given: exactly the negated word
+    pub shown-negated : OddFormula (f .shape) (wordsIn f) → (y : Shown) → ShownAs s (evaluatedDouble s bytes n (neg d)) y → (shownNumber y ≡ 0) × (shownPlace y ≡ 0) × Exactly s (negℤ (evaluationWord (evaluatedDouble s bytes n d))) (shownValue y)
+    shown-negated o y p = shown-value s (negℤ (evaluationWord (evaluatedDouble s bytes n d))) y (subst (λ (i : Evaluation). ShownAs s i y) (double-negated o) p)
 
     pub double-same : EvenFormula (f .shape) (wordsIn f) → evaluatedDouble s bytes n (neg d) ≡ evaluatedDouble s bytes n d
-    double-same o = as-negated-word ∙ sheet-same s bytes n given w o l h l′ h′ ∙ sym as-word
+    double-same o = as-negated-word ∙ sheet-same s bytes n given w l h l′ h′ o ∙ sym as-word

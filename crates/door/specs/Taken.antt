@@ -29,7 +29,7 @@ takenOf s nan = NotFinite
 takenOf s (inf t) = NotFinite
 takenOf s (fin t m e) = asWord (argumentOf s t m e)
 
--- the same of the other sign
+-- with the word negated; a refusal stays
 abbrev pub negatedTaken : Taken → Taken
 negatedTaken (Word w) = Word (negℤ w)
 negatedTaken NoWord = NoWord

@@ -147,7 +147,7 @@ root-numbers :
 unfolding rootIn
 root-numbers = (refl, refl, refl)
 
-abbrev tangent : List ℤ
+abbrev pub tangent : List ℤ
 tangent = pos 0 ∷ pos 16777216 ∷ pos 16777216 ∷ negsuc 16777215 ∷ pos 50331648 ∷ []
 
 -- each kind's numbers and divisors are its own: 1 + x at one; 1 + x over 2 - x at one; the tangent's fraction at a half

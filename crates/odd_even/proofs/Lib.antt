@@ -1,4 +1,4 @@
--- Laws of odd and even polynomials, lowest first. `StaysInRange`, `Distance` and `BothSides` hold promises.
+-- Laws of the kinds `odd` and `even`, lowest first. `StaysInRange`, `Distance` and `BothSides` hold promises.
 pub mod SquareLaws
 pub mod StaysInRange
 pub mod Distance

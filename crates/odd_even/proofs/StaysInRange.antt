@@ -1,4 +1,4 @@
--- Demand 3 for odd and even polynomials: of an admitted one, at every argument of the interval, each number on the way is a word. S bounds
+-- Demand 3 for the kinds `odd` and `even`: of an admitted formula, at every argument of the interval, each number on the way is a word. S bounds
 -- the square, so the polynomial's own law holds at the square; B_0 and A bound what the last product is made of.
 use Rattle.whole.proofs.Basics.{_≡_, List, ℕ, _≤_, _<_, arith, length, ℤ, natAbs}
 use Rattle.word.specs.Words.{largest, Word, Scale, boundProduct}

@@ -1,22 +1,19 @@
--- An odd polynomial answers at -x exactly the negated answer, and an even one the same. The walk carries both at once, since each coefficient
--- makes one of the other.
+-- An odd polynomial answers at -x exactly the negated answer, and an even one the same. The walk carries both at once, since an odd
+-- polynomial without c0, a power lower, is even, and an even one odd.
 use Rattle.whole.proofs.Basics.{_≡_, _∙_, refl, ap, List, [], _∷_, ℕ, suc, _+_, arith, ℤ, pos, negℤ, _+ℤ_}
 use lib.ListN.{getD}
-use Rattle.whole.proofs.Diff.{v, n, _⊕_, ⊖_, same}
 use Rattle.word.specs.Words.{productOf}
-use Rattle.word.proofs.WordLaws.{product-odd-right, product-even}
+use Rattle.word.proofs.SignLaws.{sign-behind-zero}
+use Rattle.word.proofs.WordLaws.{product-odd-right, product-same}
 use Rattle.polynomial.specs.Polynomial.{horner}
 use Rattle.polynomial.specs.Parity.{OddPowers, EvenPowers}
 
--- without c0, and a power lower, the other is left
+-- what is left without c0, a power lower
 odd-rest : (c : ℤ) (cs : List ℤ) → OddPowers (c ∷ cs) → EvenPowers cs
 odd-rest c cs h k = let e : suc (k + k + 1) ≡ suc k + suc k = omega arith in ap (λ (i : ℕ). getD (c ∷ cs) i (pos 0)) e ∙ h (suc k)
 
 even-rest : (c : ℤ) (cs : List ℤ) → EvenPowers (c ∷ cs) → OddPowers cs
 even-rest c cs h k = let e : suc (k + k) ≡ k + k + 1 = omega arith in ap (λ (i : ℕ). getD (c ∷ cs) i (pos 0)) e ∙ h k
-
-zero-plus : (a b : ℤ) → a ≡ pos 0 → a +ℤ negℤ b ≡ negℤ (a +ℤ b)
-zero-plus a b e = rw e (same (n 0 ⊕ ⊖ v b) (⊖ (n 0 ⊕ v b)) (omega arith))
 
 both : (s : ℕ) (ws : List ℤ) (x : ℤ) → (OddPowers ws → horner s ws (negℤ x) ≡ negℤ (horner s ws x)) × (EvenPowers ws → horner s ws (negℤ x) ≡ horner s ws x)
 unfolding horner
@@ -27,10 +24,10 @@ both s (c ∷ cs) x = (odd (both s cs x .1), even (both s cs x .0))
     y = horner s cs x
 
     odd : (EvenPowers cs → horner s cs (negℤ x) ≡ y) → OddPowers (c ∷ cs) → c +ℤ productOf s (horner s cs (negℤ x)) (negℤ x) ≡ negℤ (c +ℤ productOf s y x)
-    odd f h = rw (f (odd-rest c cs h), product-odd-right s y x) (zero-plus c (productOf s y x) (h 0))
+    odd f h = rw (f (odd-rest c cs h), product-odd-right s y x) (sign-behind-zero c (productOf s y x) (h 0))
 
     even : (OddPowers cs → horner s cs (negℤ x) ≡ negℤ y) → EvenPowers (c ∷ cs) → c +ℤ productOf s (horner s cs (negℤ x)) (negℤ x) ≡ c +ℤ productOf s y x
-    even f h = rw (f (even-rest c cs h), product-even s y x) refl
+    even f h = rw (f (even-rest c cs h), product-same s y x) refl
 
 pub polynomial-negated : (s : ℕ) (ws : List ℤ) (x : ℤ) → OddPowers ws → horner s ws (negℤ x) ≡ negℤ (horner s ws x)
 polynomial-negated s ws x = both s ws x .0

@@ -27,7 +27,7 @@ step c p x h e u w =
 step-size : (y x z : ℤ) (u w d : ℕ) → 2 * natAbs y ≤ u → 2 * natAbs z ≤ d → 2 * natAbs (y *ℤ pos w +ℤ x *ℤ z) ≤ w * u + natAbs x * d
 step-size y x z u w d f g = omega (arith, abs-add (y *ℤ pos w) (x *ℤ z), abs-mul y (pos w), abs-mul x z, mul-le-mul-right w f, mul-le-mul-left (natAbs x) g)
 
--- of any word h that lies near e / u^m; the last product of an odd polynomial is such a step too, without a coefficient
+-- of any word h that lies near e / u^m; the last product of the kind `odd` is such a step too, without a coefficient
 pub step-near : (s : ℕ) (c x h e : ℤ) (m d : ℕ) → 2 * natAbs (h *ℤ pos (unit s ^ m) -ℤ e) ≤ d → 2 * natAbs ((c +ℤ productOf s h x) *ℤ pos (unit s ^ suc m) -ℤ (c *ℤ pos (unit s ^ suc m) +ℤ x *ℤ e)) ≤ unit s ^ suc m + natAbs x * d
 step-near s c x h e m d f =
     let p = productOf s h x in

@@ -10,7 +10,7 @@ use lib.ListN.{getD}
 abbrev pub OddPowers : List ℤ → Type 0
 OddPowers ws = (k : ℕ) → getD ws (k + k) (pos 0) ≡ pos 0
 
--- every odd one is: c1, c3, c5 ..
+-- every odd coefficient is 0: c1, c3, c5 ..
 abbrev pub EvenPowers : List ℤ → Type 0
 EvenPowers ws = (k : ℕ) → getD ws (k + k + 1) (pos 0) ≡ pos 0
 
@@ -28,6 +28,15 @@ pub cubic-is-odd : OddPowers cubic
 cubic-is-odd zero = refl
 cubic-is-odd (suc zero) = refl
 cubic-is-odd (suc (suc k)) = let e : suc (suc k) + suc (suc k) ≡ suc (suc (suc (suc (k + k)))) = omega arith in ap (λ (i : ℕ). getD cubic i (pos 0)) e
+
+-- zeros alone are odd, and even
+zero-is-odd : OddPowers (pos 0 ∷ [])
+zero-is-odd zero = refl
+zero-is-odd (suc k) = let e : suc k + suc k ≡ suc (suc (k + k)) = omega arith in ap (λ (i : ℕ). getD (pos 0 ∷ []) i (pos 0)) e
+
+zeros-are-even : EvenPowers (pos 0 ∷ pos 0 ∷ [])
+zeros-are-even zero = refl
+zeros-are-even (suc k) = let e : suc k + suc k + 1 ≡ suc (suc (suc (k + k))) = omega arith in ap (λ (i : ℕ). getD (pos 0 ∷ pos 0 ∷ []) i (pos 0)) e
 
 -- what is not even: 1 + x, 1 + x³; and what is: 1 + x²
 with-x : EvenPowers (pos 1 ∷ pos 1 ∷ []) → ⊥

@@ -2,7 +2,7 @@
 -- even polynomials the same: the quotient is odd in each argument.
 use Rattle.whole.proofs.Basics.{_≡_, _∙_, ap₂, List, ℕ, ℤ, negℤ}
 use Rattle.word.specs.Words.{quotientOf}
-use Rattle.word.proofs.WordLaws.{quotient-odd-dividend, quotient-odd-divisor, quotient-even}
+use Rattle.word.proofs.WordLaws.{quotient-odd-dividend, quotient-odd-divisor, quotient-same}
 use Rattle.polynomial.specs.Polynomial.{horner}
 use Rattle.polynomial.specs.Parity.{OddPowers, EvenPowers}
 use Rattle.polynomial.proofs.BothSides.{polynomial-negated, polynomial-same}
@@ -19,4 +19,4 @@ module _ (s : ℕ) (num den : List ℤ) (x : ℤ) where
   even-over-even f g = ap₂ (quotientOf s) (polynomial-same s num x f) (polynomial-same s den x g)
 
   pub odd-over-odd : OddPowers num → OddPowers den → rationalOf s num den (negℤ x) ≡ rationalOf s num den x
-  odd-over-odd f g = ap₂ (quotientOf s) (polynomial-negated s num x f) (polynomial-negated s den x g) ∙ quotient-even s (horner s num x) (horner s den x)
+  odd-over-odd f g = ap₂ (quotientOf s) (polynomial-negated s num x f) (polynomial-negated s den x g) ∙ quotient-same s (horner s num x) (horner s den x)

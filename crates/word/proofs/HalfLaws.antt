@@ -1,6 +1,7 @@
 -- The laws of naturals that are rounded to the nearest: the result is the one q with 2·d·q ≤ 2·a + d < 2·d·q + 2·d.
 use Rattle.whole.proofs.Basics.{_≡_, refl, ℕ, suc, zero, _+_, _*_, _≤_, _<_, arith}
-use native.Mathlib.Nat.{div-add-mod, mod-lt, mul-le-mul-left, le-of-mul-le-mul-left, lt-of-mul-lt-mul-left, mul-lt-mul-of-pos-left}
+use native.Mathlib.Nat.{div-add-mod, mod-lt, lt-of-mul-lt-mul-left}
+use lib.Ieee.Nearest.{div-same}
 use Rattle.word.specs.Rounded.{halfUp}
 
 pub half-low : (a d : ℕ) → 0 < d → 2 * (d * halfUp a d) ≤ 2 * a + d
@@ -21,7 +22,4 @@ half-zero (suc d) = half-is 0 (suc d) 0 (omega arith) (omega arith) (omega arith
 
 -- it sees only the fraction's value
 pub half-same : (a d b c : ℕ) → 0 < d → 0 < c → a * c ≡ b * d → halfUp a d ≡ halfUp b c
-half-same a d b c D C e =
-    half-is a d (halfUp b c) D
-    (le-of-mul-le-mul-left {k = c} (omega (arith, mul-le-mul-left d (half-low b c C))) C)
-    (lt-of-mul-lt-mul-left c (omega (arith, mul-lt-mul-of-pos-left (half-high b c C) D)))
+half-same a d b c D C e = div-same (a + a + d) (d + d) (b + b + c) (c + c) (omega arith) (omega arith) (omega arith)

@@ -1,4 +1,4 @@
--- Laws of the operations on words, which other crates use.
+-- Laws of the operations on words, lowest first; other crates use all but `HalfLaws`.
 pub mod HalfLaws
 pub mod RoundedLaws
 pub mod SignLaws

@@ -1,10 +1,10 @@
--- The laws of rounding: odd, how near, how large, exact where it divides, where a tie goes, and that these determine the result. They are laws of
+-- The laws of rounding: odd, how near, where a tie goes, that these two determine the result, how large, exact where it divides. They are laws of
 -- naturals, carried to the numbers below zero. A change of the tie rule changes `rounded-odd`, `rounded-tie`, `rounded-determined` and what the
 -- functions use; the other laws keep their statements.
 use Rattle.whole.proofs.Basics.{_≡_, _∙_, refl, sym, ap, ap₂, not, ℕ, suc, zero, _+_, _-_, _*_, _/_, _≤_, _<_, arith, ℤ, pos, negsuc, negℤ, natAbs, _+ℤ_, _-ℤ_, _*ℤ_}
 use mathlib.Core.Bool.{Bool·beq}
 use native.Mathlib.Decide.{decLe}
-use native.Mathlib.Nat.{div-add-mod, div-zero, mod-lt, lt-of-mul-lt-mul-left}
+use native.Mathlib.Nat.{div-add-mod, div-eq-of-lt, div-zero, mod-lt, lt-of-mul-lt-mul-left}
 use lib.IntN.{negℤ-negℤ}
 use lib.Signed.{shrZ, quotZ}
 use Rattle.whole.proofs.Diff.{v, n, _⊕_, _⊗_, _⊝_, ⊖_, same, same-out, size}
@@ -112,13 +112,10 @@ pub lower-most : (m : ℤ) → natAbs (lower m) ≤ 1
 lower-most (pos a) = omega arith
 lower-most (negsuc a) = omega arith
 
-none : (a k : ℕ) → a < k → a / k ≡ 0
-none a k h = omega (arith, lt-of-mul-lt-mul-left k {m = a / k} {n = 1} (omega (arith, div-add-mod a k)))
-
 -- a shift of every digit but the sign's
 pub lower-is : (m : ℤ) (k : ℕ) → natAbs m < k → shrZ m k ≡ lower m
-lower-is (pos a) k h = ap pos (none a k h)
-lower-is (negsuc a) k h = ap negsuc (none a k (omega arith))
+lower-is (pos a) k h = ap pos (div-eq-of-lt h)
+lower-is (negsuc a) k h = let e : a < k = omega arith in ap negsuc (div-eq-of-lt e)
 
 pub shifted-is : (m : ℤ) (h d : ℕ) → 0 < d → 2 * h ≡ d → shrZ (m +ℤ lower m +ℤ pos h) d ≡ rounded m d
 shifted-is (pos a) h d f e = sym (at (shrZ z d) (floor-of z d f))

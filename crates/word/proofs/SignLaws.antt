@@ -1,7 +1,9 @@
--- The laws of the sign, by its two cases: what it leaves of a number, and that a number is its size with its sign put back.
-use Rattle.whole.proofs.Basics.{_≡_, refl, sym, Bool, true, false, ℕ, suc, zero, _*_, _<_, arith, ℤ, pos, negsuc, negℤ, natAbs, _-ℤ_, _*ℤ_, ltZ}
+-- The laws of the sign, by its two cases: how it is tested for, what keeps it, what it leaves of a number, and that a number is its size with its
+-- sign put back.
+use Rattle.whole.proofs.Basics.{_≡_, refl, sym, Bool, true, false, not, ℕ, suc, zero, _*_, _<_, arith, ℤ, pos, negsuc, negℤ, natAbs, _+ℤ_, _-ℤ_, _*ℤ_, ltZ}
+use lib.IntN.{negℤ-negℤ}
 use borrow.Author.Tests.{lt-leb}
-use Rattle.whole.proofs.Diff.{v, n, _⊗_, _⊝_, ⊖_, same, size}
+use Rattle.whole.proofs.Diff.{v, n, _⊕_, _⊗_, _⊝_, ⊖_, same, size}
 use Rattle.whole.proofs.Order.{abs-neg}
 use Rattle.word.specs.Words.{belowZero, withSign}
 
@@ -26,6 +28,10 @@ pub sign-odd : (t : Bool) (z : ℤ) → withSign t (negℤ z) ≡ negℤ (withSi
 sign-odd true z = refl
 sign-odd false z = refl
 
+pub sign-not : (t : Bool) (z : ℤ) → withSign (not t) z ≡ negℤ (withSign t z)
+sign-not true z = sym (negℤ-negℤ z)
+sign-not false z = refl
+
 pub sign-mul : (t : Bool) (z : ℤ) (k : ℕ) → withSign t z *ℤ pos k ≡ withSign t (z *ℤ pos k)
 sign-mul true z k = same (⊖ v z ⊗ n k) (⊖ (v z ⊗ n k)) (omega arith)
 sign-mul false z k = refl
@@ -33,6 +39,10 @@ sign-mul false z k = refl
 pub sign-back : (z : ℤ) → withSign (belowZero z) (pos (natAbs z)) ≡ z
 sign-back (pos k) = refl
 sign-back (negsuc k) = refl
+
+-- behind a 0 the sign can be taken from the sum
+pub sign-behind-zero : (a b : ℤ) → a ≡ pos 0 → a +ℤ negℤ b ≡ negℤ (a +ℤ b)
+sign-behind-zero a b e = rw e (same (n 0 ⊕ ⊖ v b) (⊖ (n 0 ⊕ v b)) (omega arith))
 
 -- a divisor's sign, given to the number that it divides
 pub sign-moved : (d q m : ℤ) → natAbs (q *ℤ d -ℤ m) ≡ natAbs (q *ℤ pos (natAbs d) -ℤ withSign (belowZero d) m)

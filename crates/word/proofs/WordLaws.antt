@@ -1,14 +1,14 @@
--- The laws of product, quotient and their bounds, over the binary places: those of rounding, at a·b / 2^s and at a·2^s / d. Everything above this crate uses these.
-use Rattle.whole.proofs.Basics.{_≡_, _∙_, sym, ap, ℕ, suc, zero, _*_, _^_, _≤_, _<_, arith, ℤ, pos, negsuc, negℤ, natAbs, _-ℤ_, _*ℤ_}
+-- The laws of product, quotient and their bounds, over the binary places: those of rounding, at a·b / 2^s and at a·2^s / d. The kinds use these.
+use Rattle.whole.proofs.Basics.{_≡_, _∙_, sym, ap, true, ℕ, suc, zero, _*_, _^_, _≤_, _<_, arith, ℤ, pos, negsuc, negℤ, natAbs, _-ℤ_, _*ℤ_}
 use native.Mathlib.Nat.{mul-le-mul, mul-le-mul-left}
 use lib.Pow.{pow-pos, pow-mono}
 use lib.IntN.{zero-*ℤ, negℤ-negℤ}
-use Rattle.whole.proofs.Diff.{v, n, _⊗_, ⊖_, same}
+use Rattle.whole.proofs.Diff.{v, _⊗_, ⊖_, same}
 use Rattle.whole.proofs.Order.{abs-mul}
 use Rattle.word.specs.Rounded.{rounded}
 use Rattle.word.specs.Words.{NotZero, unit, belowZero, withSign, productOf, quotientOf, boundProduct, boundQuotient}
 use Rattle.word.proofs.RoundedLaws.{rounded-odd, rounded-none, rounded-near, rounded-size, rounded-exact, up-above, up-least, up-mono}
-use Rattle.word.proofs.SignLaws.{sign-abs, sign-odd, sign-moved}
+use Rattle.word.proofs.SignLaws.{sign-abs, sign-odd, sign-mul, sign-moved}
 
 pub unit-pos : (s : ℕ) → 0 < unit s
 unit-pos s = pow-pos s
@@ -34,8 +34,8 @@ product-odd-left s a b = ap (λ (z : ℤ). rounded z (unit s)) (same (⊖ v a �
 pub product-odd-right : (s : ℕ) (a b : ℤ) → productOf s a (negℤ b) ≡ negℤ (productOf s a b)
 product-odd-right s a b = ap (λ (z : ℤ). rounded z (unit s)) (same (v a ⊗ ⊖ v b) (⊖ (v a ⊗ v b)) (omega arith)) ∙ rounded-odd (a *ℤ b) (unit s)
 
-pub product-even : (s : ℕ) (a b : ℤ) → productOf s (negℤ a) (negℤ b) ≡ productOf s a b
-product-even s a b = product-odd-left s a (negℤ b) ∙ ap negℤ (product-odd-right s a b) ∙ negℤ-negℤ (productOf s a b)
+pub product-same : (s : ℕ) (a b : ℤ) → productOf s (negℤ a) (negℤ b) ≡ productOf s a b
+product-same s a b = product-odd-left s a (negℤ b) ∙ ap negℤ (product-odd-right s a b) ∙ negℤ-negℤ (productOf s a b)
 
 pub product-zero : (s : ℕ) (b : ℤ) → productOf s (pos 0) b ≡ pos 0
 product-zero s b = ap (λ (z : ℤ). rounded z (unit s)) (zero-*ℤ b ∙ sym (zero-*ℤ (pos (unit s)))) ∙ rounded-exact (pos 0) (unit s) (unit-pos s)
@@ -66,16 +66,15 @@ quotient-size s a d h = rw (← e) (rounded-size (withSign (belowZero d) (a *ℤ
 pub quotient-odd-dividend : (s : ℕ) (a d : ℤ) → quotientOf s (negℤ a) d ≡ negℤ (quotientOf s a d)
 quotient-odd-dividend s a d =
     let m = a *ℤ pos (unit s) in
-    let e = same (⊖ v a ⊗ n (unit s)) (⊖ (v a ⊗ n (unit s))) (omega arith) in
-    ap (λ (z : ℤ). rounded z (natAbs d)) (ap (withSign (belowZero d)) e ∙ sign-odd (belowZero d) m) ∙ rounded-odd (withSign (belowZero d) m) (natAbs d)
+    ap (λ (z : ℤ). rounded z (natAbs d)) (ap (withSign (belowZero d)) (sign-mul true a (unit s)) ∙ sign-odd (belowZero d) m) ∙ rounded-odd (withSign (belowZero d) m) (natAbs d)
 
 pub quotient-odd-divisor : (s : ℕ) (a d : ℤ) → quotientOf s a (negℤ d) ≡ negℤ (quotientOf s a d)
 quotient-odd-divisor s a (pos zero) = rounded-none (a *ℤ pos (unit s)) ∙ ap negℤ (sym (rounded-none (a *ℤ pos (unit s))))
 quotient-odd-divisor s a (pos (suc k)) = rounded-odd (a *ℤ pos (unit s)) (suc k)
 quotient-odd-divisor s a (negsuc k) = sym (ap negℤ (rounded-odd (a *ℤ pos (unit s)) (suc k)) ∙ negℤ-negℤ (quotientOf s a (pos (suc k))))
 
-pub quotient-even : (s : ℕ) (a d : ℤ) → quotientOf s (negℤ a) (negℤ d) ≡ quotientOf s a d
-quotient-even s a d = quotient-odd-dividend s a (negℤ d) ∙ ap negℤ (quotient-odd-divisor s a d) ∙ negℤ-negℤ (quotientOf s a d)
+pub quotient-same : (s : ℕ) (a d : ℤ) → quotientOf s (negℤ a) (negℤ d) ≡ quotientOf s a d
+quotient-same s a d = quotient-odd-dividend s a (negℤ d) ∙ ap negℤ (quotient-odd-divisor s a d) ∙ negℤ-negℤ (quotientOf s a d)
 
 -- a bound quotient grows with the dividend and falls with the divisor
 quotient-mono : (s a a′ d d′ : ℕ) → a ≤ a′ → d′ ≤ d → 0 < d′ → boundQuotient s a d ≤ boundQuotient s a′ d′

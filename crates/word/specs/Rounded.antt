@@ -17,7 +17,7 @@ rounded (negsuc a) d = negℤ (pos (halfUp (suc a) d))
 unfoldable pub roundedUp : ℕ → ℕ → ℕ
 roundedUp a d = (a + (d - 1)) / d
 
--- ---- worked examples. Ties go away from zero: 1/2 gives 1, -1/2 gives -1, 3/2 gives 2 and -3/2 gives -2; and 5/2 gives 3, not the even 2
+-- ---- worked examples. Ties: ±1/2 and ±3/2; and 5/2, which gives 3, not the even 2
 ties : (rounded (pos 1) 2 ≡ pos 1) × (rounded (negsuc 0) 2 ≡ negsuc 0) × (rounded (pos 3) 2 ≡ pos 2) × (rounded (negsuc 2) 2 ≡ negsuc 1) × (rounded (pos 5) 2 ≡ pos 3)
 unfolding rounded
 ties = (refl, refl, refl, refl, refl)

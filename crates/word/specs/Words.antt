@@ -89,14 +89,23 @@ third : (quotientOf 24 (pos 16777216) (pos 50331648) ≡ pos 5592405) × (quotie
 unfolding rounded
 third = (refl, refl)
 
--- one step by two is a tie, whatever the signs
+-- ties. Five steps times a half, and three, whatever the signs; one step by two, whatever the signs, and three
+halves :
+    (productOf 24 (pos 5) (pos 8388608) ≡ pos 3)
+    × (productOf 24 (pos 5) (negsuc 8388607) ≡ negsuc 2)
+    × (productOf 24 (negsuc 2) (pos 8388608) ≡ negsuc 1)
+    × (productOf 24 (negsuc 2) (negsuc 8388607) ≡ pos 2)
+unfolding rounded
+halves = (refl, refl, refl, refl)
+
 half-a-step :
     (quotientOf 24 (pos 1) (pos 33554432) ≡ pos 1)
     × (quotientOf 24 (pos 1) (negsuc 33554431) ≡ negsuc 0)
     × (quotientOf 24 (negsuc 0) (pos 33554432) ≡ negsuc 0)
     × (quotientOf 24 (negsuc 0) (negsuc 33554431) ≡ pos 1)
+    × (quotientOf 24 (pos 3) (pos 33554432) ≡ pos 2)
 unfolding rounded
-half-a-step = (refl, refl, refl, refl)
+half-a-step = (refl, refl, refl, refl, refl)
 
 -- a bound goes up
 a-step-more : boundProduct 24 1 1 ≡ 1

@@ -66,7 +66,8 @@ pub fn product(a: i32, b: i32, s: u32) -> i64
     rounded_shift(times(a as i64, b as i64), s)
 }
 
-// 2·m / 2·d, whose divisor has a half. The division rounds towards zero, so that half is added first, away from zero: with the sign of the quotient.
+// 2·m / 2·d, whose divisor has a half. The division rounds towards zero, so that half is added first, away from zero: d, negated where the signs
+// differ, has m's sign.
 pub fn quotient(a: i32, d: i32, s: u32) -> i64
     requires { ⌜ Division s a d ⌝ }
     ensures { λ r. ⌜ r ≡ quotientOf s a d ⌝ }

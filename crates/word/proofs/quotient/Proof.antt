@@ -29,7 +29,7 @@ module _ (c : tie.Start) where
   abbrev m : ℤ
   m = a *ℤ pos u
 
-  -- whether the signs differ, and the divisor with the quotient's sign
+  -- whether the signs differ, and the divisor with the dividend's sign
   abbrev sign : Bool
   sign = not (Bool·beq (belowZero m) (belowZero d))
 
