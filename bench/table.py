@@ -14,7 +14,8 @@ from pathlib import Path
 
 # The rows of one sine: as an odd formula, and padded to a polynomial.
 ODD, PADDED = "odd, sheet of 1", "polynomial, odd padded"
-# Evaluations of a formula alone; the polynomial's has a tighter bound, the root's a wider one.
+# Evaluations of a formula alone that have a bound of their own by clang; the
+# polynomial's is tighter, the root's wider.
 ALONE = {f"{kind}, sheet of 1" for kind in ("rational", "fraction", "odd", "even")}
 
 

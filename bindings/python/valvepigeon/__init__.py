@@ -43,8 +43,8 @@ from . import _library
 if TYPE_CHECKING:
     from _typeshed import ReadableBuffer
 
-# The kinds of formula records. An odd polynomial's words are the coefficients
-# of x, x^3, x^5, ..., an even one's those of 1, x^2, x^4, ...
+# The kinds of formula records. The words of ODD are the coefficients of x, x^3,
+# x^5, ..., those of EVEN the ones of 1, x^2, x^4, ...
 POLYNOMIAL, RATIONAL, FRACTION, ROOT = 0x0010, 0x0011, 0x0012, 0x0013
 ODD, EVEN = 0x0014, 0x0015
 

@@ -49,7 +49,7 @@ takenWord (Word w) = w
 takenWord NoWord = pos 0
 takenWord NotFinite = pos 0
 
--- ---- worked examples. Half a step, 2^-25, is a tie, and so are -1/2 and -3/2 of a step: they go away from zero, as products do
+-- ---- worked examples. Half a step, 2^-25, is a tie, and so are -1/2 and -3/2 of a step
 half-steps :
     (takenOf 24 (fin false 1 (negsuc 24)) ≡ Word (pos 1))
     × (takenOf 24 (fin true 1 (negsuc 24)) ≡ Word (negsuc 0))
