@@ -15,8 +15,10 @@ from pathlib import Path
 # The rows of one sine: as an odd formula, and padded to a polynomial.
 ODD, PADDED = "odd, sheet of 1", "polynomial, odd padded"
 # Evaluations of a formula alone that have a bound of their own by clang; the
-# polynomial's is tighter, the root's wider.
-ALONE = {f"{kind}, sheet of 1" for kind in ("rational", "fraction", "odd", "even")}
+# polynomial's is tighter.
+ALONE = {
+    f"{kind}, sheet of 1" for kind in ("rational", "fraction", "root", "odd", "even")
+}
 
 
 def counted(folder, compiler):

@@ -5,7 +5,7 @@ ghost use Rattle.root.specs.Root.{rootOf, Rootable, rootWord};
 
 // The root of v by Heron's rule, from 2 to the power of half the binary digits, rounded up, which is above the root.
 // It ends when the new number is not below the old: near a square less one the numbers swing between two, and never agree.
-// `less` is w - 1: of the sum `less + 1` the compiler knows that it is not 0, so that it tests no divisor.
+// `less` is w - 1, in 32 bits: of the sum `less + 1` the compiler knows that it is not 0, so that it tests no divisor, and that it is short.
 fn heron(v: u64) -> u64
     requires { ⌜ v < 2 ^ 60 ⌝ }
     ensures { λ r. ⌜ r ≡ rootOf v ⌝ }
@@ -14,14 +14,14 @@ fn heron(v: u64) -> u64
         return 0;
     }
     let b = 64 - u64::leading_zeros(v);
-    let mut less = word::power_of_two((b + 1) / 2) - 1;
+    let mut less = (1u32 << ((b + 1) / 2)) - 1;
     loop {
-        let w = less + 1;
+        let w = (less + 1) as u64;
         let next = (w + v / w) / 2;
         if w <= next {
             break w;
         }
-        less = next - 1;
+        less = (next - 1) as u32;
     }
 }
 

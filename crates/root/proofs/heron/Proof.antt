@@ -1,9 +1,9 @@
 -- `root::heron` meets its contract. The invariant, of w = less + 1: its size leaves room for the sum, and the root is not above it.
-use Rattle.whole.proofs.Basics.{_≡_, sym, subst, ℕ, suc, zero, _+_, _-_, _*_, _/_, _^_, _≤_, _<_, arith}
-use native.Mathlib.Nat.{div-le-self}
+use Rattle.whole.proofs.Basics.{_≡_, _∙_, sym, subst, ℕ, suc, zero, _+_, _-_, _*_, _/_, _%_, _^_, _≤_, _<_, arith}
+use native.Mathlib.Nat.{div-le-self, mod-eq-of-lt, one-mul}
 use native.Mathlib.Decide.{decLe}
 use lib.Count.{leadingZeros, leading-le, leading-length}
-use lib.Pow.{pow-pos, pow-mono}
+use lib.Pow.{pow-pos, pow-mono, pow-lt}
 use Rattle.root.proofs.RootLaws.{root-is}
 use Rattle.root.proofs.HeronLaws.{heron, not-below, heron-ended, start-above}
 use Rattle.root.proofs.heron.Statement.{statement}
@@ -63,30 +63,31 @@ next v w p i h = (positive (heron v w) (not-below v w (i .0)), omega (arith, i .
 returns : tie.Need-returns Inv-loop μ-loop
 returns c = root-is (c .before .args .v) 0 (omega arith) (omega (arith, c .if1 .taken))
 
-power-of-two-requires : tie.Need-power-of-two-requires Inv-loop μ-loop
-power-of-two-requires c κs = omega (arith, exponent-most (c .before .args .v) (c .before .pre))
+-- the shifted 1 does not wrap
+shifted : (v : ℕ) → v < 2 ^ 60 → start v ≡ 1 * start v % 2 ^ 32
+shifted v h = sym (mod-eq-of-lt (rw one-mul (pow-lt {j = 32} (omega (arith, exponent-most v h)))) ∙ one-mul (start v))
 
-started : (c : tie.After-power-of-two Inv-loop μ-loop) → Above (c .before .before .args .v) (c .power-of-two .result)
-started c = subst (Above (c .before .before .args .v)) (sym (c .power-of-two .ensures)) (first (c .before .before .args .v) (c .before .before .pre))
+started : (c : tie.Else1 Inv-loop μ-loop) → Above (c .before .args .v) (1 * start (c .before .args .v) % 2 ^ 32)
+started c = subst (Above (c .before .args .v)) (shifted (c .before .args .v) (c .before .pre)) (first (c .before .args .v) (c .before .pre))
 
 loop-holds : tie.Need-loop-holds Inv-loop μ-loop
-loop-holds c = one-less (c .before .before .args .v) _ (started c)
+loop-holds c = one-less (c .before .args .v) _ (started c)
 
 add-next : tie.Need-add-next Inv-loop μ-loop
-add-next c = record { fits = omega (arith, c .loop .inv .1, c .before .before .before .pre, div-le-self (c .before .before .before .args .v) (c .loop .less + 1)) }
+add-next c = record { fits = omega (arith, c .loop .inv .1, c .before .before .pre, div-le-self (c .before .before .args .v) (c .loop .less + 1)) }
 
-again : (c : tie.Else2 Inv-loop μ-loop) → Above (c .before .before .before .before .args .v) (heron (c .before .before .before .before .args .v) (c .before .loop .less + 1))
-again c = next (c .before .before .before .before .args .v) (c .before .loop .less + 1) (omega (arith, c .before .before .before .if1 .left)) (c .before .loop .inv) (c .if2 .left)
+again : (c : tie.Else2 Inv-loop μ-loop) → Above (c .before .before .before .args .v) (heron (c .before .before .before .args .v) (c .before .loop .less + 1))
+again c = next (c .before .before .before .args .v) (c .before .loop .less + 1) (omega (arith, c .before .before .if1 .left)) (c .before .loop .inv) (c .if2 .left)
 
 loop-less : tie.Need-loop-less Inv-loop μ-loop
 loop-less c = omega (arith, c .if2 .left, again c .0)
 
 loop-again : tie.Need-loop-again Inv-loop μ-loop
-loop-again c = one-less (c .before .before .before .before .args .v) _ (again c)
+loop-again c = one-less (c .before .before .before .args .v) _ (again c)
 
 returns-2 : tie.Need-returns-2 Inv-loop μ-loop
 returns-2 c =
-    let v = c .before .before .before .before .args .v in
+    let v = c .before .before .before .args .v in
     let w = c .before .loop .less + 1 in
     root-is v w (heron-ended v w (c .if2 .taken)) (c .before .loop .inv .2)
 
@@ -99,13 +100,15 @@ heron-spec =
     returns
     (λ c. leading-le 64 (c .before .args .v))
     (λ c. record { fits = omega arith })
-    power-of-two-requires
+    (λ c. omega (arith, exponent-most (c .before .args .v) (c .before .pre)))
     (λ c. started c .0)
     loop-holds
+    (λ c. record { fits = omega (arith, c .loop .inv .1) })
     (λ c. record { fits = omega (arith, c .loop .inv .1) })
     (λ c. c .loop .inv .0)
     add-next
     (λ c. again c .0)
+    (λ c. record { fits = omega (arith, again c .1) })
     loop-less
     loop-again
     returns-2)
