@@ -1,9 +1,10 @@
 """The paper's own cases (01, 'Checked by hand'), P or not, with the tie cases
 as request M-101 has them, and the listing's; then cases of odd and even
-formulas (request M-100) and of ties (M-101), worked out by hand.
+formulas (request M-100), of ties (M-101) and of sines and cosines (M-102),
+worked out by hand.
 
-A case is a formula, an argument where an answer is asked, and what is given:
-an answer word, a refusal number at the record, or accepted (0).
+A case is a formula, an argument or an angle where an answer is asked, and what
+is given: an answer word, a refusal number at the record, or accepted (0).
 """
 
 from formulas import EVEN, FRACTION, ODD, POLYNOMIAL, RATIONAL, ROOT, Formula
@@ -256,4 +257,176 @@ TIES = (
     # over it is 3/2 or -3/2.
     (fraction(2, (0, 3, 2 * ONE - 1, 1, 2 * ONE)), ONE, 2),
     (fraction(2, (0, 3, 2 * ONE - 1, 1, 2 * ONE)), -ONE, -2),
+)
+
+# Sines and cosines. The sine of the first formula is the argument itself, and
+# in quarters 2 and 3 it negated. In the comments f is the one that is divided
+# by 2^6: in quarters 1 and 3 it has been taken from 2^30.
+
+ARGUMENT = odd((ONE,), 0, ONE)
+
+# A sine as a handbook has it: the series of the sine of pi x / 2, to x^11.
+SERIES = odd((26353589, -10837479, 1337020, -78547, 2692, -60), -ONE, ONE)
+
+SINES = (
+    # f = 0, 1, 31, 32 (1/2, a tie), 33, 64, 95 and 96 (3/2, a tie).
+    (ARGUMENT, 0x00000000, 0),
+    (ARGUMENT, 0x00000001, 0),
+    (ARGUMENT, 0x0000001F, 0),
+    (ARGUMENT, 0x00000020, 1),
+    (ARGUMENT, 0x00000021, 1),
+    (ARGUMENT, 0x00000040, 1),
+    (ARGUMENT, 0x0000005F, 1),
+    (ARGUMENT, 0x00000060, 2),
+    # 0x12345640 is 0x48D159 times 2^6, and 0x48D159 is 4772185; with 32 more
+    # it is a tie. Then half of a quarter.
+    (ARGUMENT, 0x1234565F, 4772185),
+    (ARGUMENT, 0x12345660, 4772186),
+    (ARGUMENT, 0x20000000, 8388608),
+    # f is 2^30 less 33, 32 (one less 1/2, a tie), 31, 1, 0, 1, 31, 32 and 33.
+    (ARGUMENT, 0x3FFFFFDF, 16777215),
+    (ARGUMENT, 0x3FFFFFE0, 16777216),
+    (ARGUMENT, 0x3FFFFFE1, 16777216),
+    (ARGUMENT, 0x3FFFFFFF, 16777216),
+    (ARGUMENT, 0x40000000, 16777216),
+    (ARGUMENT, 0x40000001, 16777216),
+    (ARGUMENT, 0x4000001F, 16777216),
+    (ARGUMENT, 0x40000020, 16777216),
+    (ARGUMENT, 0x40000021, 16777215),
+    # One less 4772185 and 1/2 is 12005030 and 1/2, a tie.
+    (ARGUMENT, 0x52345660, 12005031),
+    (ARGUMENT, 0x52345661, 12005030),
+    (ARGUMENT, 0x60000000, 8388608),
+    # f = 96, 33, 32, 31, 1; in quarter 2 f = 0, 1, 31, 32, 33 and 96.
+    (ARGUMENT, 0x7FFFFFA0, 2),
+    (ARGUMENT, 0x7FFFFFDF, 1),
+    (ARGUMENT, 0x7FFFFFE0, 1),
+    (ARGUMENT, 0x7FFFFFE1, 0),
+    (ARGUMENT, 0x7FFFFFFF, 0),
+    (ARGUMENT, 0x80000000, 0),
+    (ARGUMENT, 0x80000001, 0),
+    (ARGUMENT, 0x8000001F, 0),
+    (ARGUMENT, 0x80000020, -1),
+    (ARGUMENT, 0x80000021, -1),
+    (ARGUMENT, 0x80000060, -2),
+    (ARGUMENT, 0x9234565F, -4772185),
+    (ARGUMENT, 0x92345660, -4772186),
+    (ARGUMENT, 0xA0000000, -8388608),
+    # About three quarters as about a quarter, negated.
+    (ARGUMENT, 0xBFFFFFDF, -16777215),
+    (ARGUMENT, 0xBFFFFFE0, -16777216),
+    (ARGUMENT, 0xBFFFFFFF, -16777216),
+    (ARGUMENT, 0xC0000000, -16777216),
+    (ARGUMENT, 0xC0000001, -16777216),
+    (ARGUMENT, 0xC0000020, -16777216),
+    (ARGUMENT, 0xC0000021, -16777215),
+    (ARGUMENT, 0xD2345660, -12005031),
+    (ARGUMENT, 0xD2345661, -12005030),
+    (ARGUMENT, 0xE0000000, -8388608),
+    # f = 96, 33, 32, 31 and 1.
+    (ARGUMENT, 0xFFFFFFA0, -2),
+    (ARGUMENT, 0xFFFFFFDF, -1),
+    (ARGUMENT, 0xFFFFFFE0, -1),
+    (ARGUMENT, 0xFFFFFFE1, 0),
+    (ARGUMENT, 0xFFFFFFFF, 0),
+    # x - x^3/8 is 31/64 at 1/2, as above, and 7/8 at one, 7 * 2^21 steps.
+    (ODD_OF_TWO, 0x20000000, 8126464),
+    (ODD_OF_TWO, 0x60000000, 8126464),
+    (ODD_OF_TWO, 0xA0000000, -8126464),
+    (ODD_OF_TWO, 0xE0000000, -8126464),
+    (ODD_OF_TWO, 0x40000000, 14680064),
+    (ODD_OF_TWO, 0xC0000000, -14680064),
+    # The argument is rounded before it is used. It is half of one, less 33/64
+    # and 1/2 of a step: just below 1/2, and 1/2, which is a tie again.
+    (ODD_STEP, 0x1FFFFFDF, 0),
+    (ODD_STEP, 0x1FFFFFE0, 1),
+    (ODD_STEP, 0x60000020, 1),
+    (ODD_STEP, 0x9FFFFFE0, -1),
+    (ODD_STEP, 0xE0000020, -1),
+    (ODD_STEP, 0xE0000021, 0),
+    # A formula below 0 between 0 and one, and the largest word at one.
+    (odd((-ONE,), 0, ONE), 0x40000000, -16777216),
+    (odd((-ONE,), 0, ONE), 0xC0000000, 16777216),
+    (odd((-ONE,), 0, ONE), 0xFFFFFFE0, 1),
+    (odd((2147483647,), -ONE, ONE), 0x40000000, 2147483647),
+    (odd((2147483647,), -ONE, ONE), 0xC0000000, -2147483647),
+)
+
+# A quarter more, each time, is an angle of the sines above; from 0xC0000000 on
+# the sum wraps.
+COSINES = (
+    (ARGUMENT, 0x00000000, 16777216),
+    (ARGUMENT, 0x00000001, 16777216),
+    (ARGUMENT, 0x00000020, 16777216),
+    (ARGUMENT, 0x00000021, 16777215),
+    (ARGUMENT, 0x12345660, 12005031),
+    (ARGUMENT, 0x20000000, 8388608),
+    (ARGUMENT, 0x3FFFFFA0, 2),
+    (ARGUMENT, 0x3FFFFFE0, 1),
+    (ARGUMENT, 0x3FFFFFE1, 0),
+    (ARGUMENT, 0x3FFFFFFF, 0),
+    (ARGUMENT, 0x40000000, 0),
+    (ARGUMENT, 0x40000001, 0),
+    (ARGUMENT, 0x40000020, -1),
+    (ARGUMENT, 0x52345660, -4772186),
+    (ARGUMENT, 0x60000000, -8388608),
+    (ARGUMENT, 0x7FFFFFDF, -16777215),
+    (ARGUMENT, 0x7FFFFFE0, -16777216),
+    (ARGUMENT, 0x7FFFFFFF, -16777216),
+    (ARGUMENT, 0x80000000, -16777216),
+    (ARGUMENT, 0x80000001, -16777216),
+    (ARGUMENT, 0x80000020, -16777216),
+    (ARGUMENT, 0x80000021, -16777215),
+    (ARGUMENT, 0x92345660, -12005031),
+    (ARGUMENT, 0xA0000000, -8388608),
+    (ARGUMENT, 0xBFFFFFE0, -1),
+    (ARGUMENT, 0xBFFFFFFF, 0),
+    (ARGUMENT, 0xC0000000, 0),
+    (ARGUMENT, 0xC0000001, 0),
+    (ARGUMENT, 0xC0000020, 1),
+    (ARGUMENT, 0xD2345660, 4772186),
+    (ARGUMENT, 0xE0000000, 8388608),
+    (ARGUMENT, 0xFFFFFFDF, 16777215),
+    (ARGUMENT, 0xFFFFFFE0, 16777216),
+    (ARGUMENT, 0xFFFFFFFF, 16777216),
+    (ODD_OF_TWO, 0x00000000, 14680064),
+    (ODD_OF_TWO, 0x60000000, -8126464),
+    (ODD_OF_TWO, 0xE0000000, 8126464),
+    (ODD_STEP, 0xDFFFFFDF, 0),
+    (ODD_STEP, 0xDFFFFFE0, 1),
+    (odd((2147483647,), -ONE, ONE), 0x80000000, -2147483647),
+)
+
+# Formulas that sine and cosine take, and formulas that they refuse by 15.
+
+FIT = (
+    ARGUMENT,
+    odd((ONE,), -1, ONE),
+    odd((ONE,), 0, ONE + 1),
+    odd((1,), -WIDEST, ONE),
+    odd((1,), 0, WIDEST),
+    odd((0,), -ONE, 2 * ONE),
+)
+
+UNFIT = (
+    # The interval ends short of 0 or of one, or of both, or far from them.
+    odd((ONE,), 1, ONE),
+    odd((ONE,), 0, ONE - 1),
+    odd((ONE,), 1, ONE - 1),
+    odd((ONE,), 0, 0),
+    odd((ONE,), ONE, ONE),
+    odd((ONE,), -ONE, 0),
+    odd((ONE,), -ONE, ONE - 1),
+    odd((ONE,), 1, 2 * ONE),
+    odd((ONE,), -2 * ONE, -ONE),
+    odd((1,), -WIDEST, -1),
+    # Another kind; but for the even formula and the root they give x, or
+    # another odd answer.
+    polynomial((0, ONE)),
+    polynomial((0, ONE, 0, -ONE // 8), 0, ONE),
+    even((0, ONE)),
+    rational(ones(0, 1), ones(1)),
+    fraction(0, ones(0, 1, 1)),
+    TANGENT,
+    SQUARE_ROOT,
 )

@@ -11,25 +11,29 @@ from random import Random
 
 import slow
 from by_hand import (
-    ADMISSIONS, ANSWERS, LISTED, ODD_AND_EVEN_ADMISSIONS, ODD_AND_EVEN_ANSWERS,
-    REFUSED, TIES)
+    ADMISSIONS, ANSWERS, COSINES, FIT, LISTED, ODD_AND_EVEN_ADMISSIONS,
+    ODD_AND_EVEN_ANSWERS, REFUSED, SERIES, SINES, TIES, UNFIT)
 from door import evaluate_double, interval, pattern_of, word_of
 from evaluation import evaluate
 from formulas import (
     EVEN, FRACTION, ODD, POLYNOMIAL, POLYNOMIALS, RATIONAL, ROOT, Formula,
     admission, answer)
 from makers import (
-    EVEN_FORMS, KINDS, ODD_FORMS, OTHER_FORMS, arguments, formula_of_form,
-    full_polynomial, good_formula, good_formulas, largest, sheet_of, signed,
-    size, tied_divisor, tied_formula, with_field, word)
+    EDGE_ANGLES, EVEN_FORMS, KINDS, ODD_FORMS, OTHER_FORMS, angle_in,
+    arguments, formula_of_form, full_polynomial, full_quarter_formula,
+    good_formula, good_formulas, largest, quarter_formula, sheet_of, signed,
+    size, tied_angle_in, tied_divisor, tied_formula, tied_quarter_formula,
+    with_field, word)
 from number import (
     M, NO_WORD, ONE, bound_product, bound_quotient, is_word, nearest, product,
     quotient, root)
 from questions import (
-    COUNT, DOUBLE, EVALUATE, FORMULA, INTERVAL, RECORD, SHEET, answer_to,
-    ask_record, ask_sheet, buffer_beforehand, unpacked_fields)
+    COSINE, COUNT, DOUBLE, EVALUATE, FORMULA, INTERVAL, RECORD, SHEET, SINE,
+    answer_to, ask_cosine, ask_record, ask_sheet, ask_sine, buffer_beforehand,
+    unpacked_fields)
 from refusal import Refused
 from sheet import END, START, formula_count, formula_of, read, read_run
+from turn import HALF_TURN, QUARTER, cosine, sine, wrapped
 from vectors import taken_apart
 from writing import record_of, start_or_end, write_record, write_sheet
 
@@ -213,6 +217,89 @@ def check_opposite_arguments(tally, rng):
                    (admission(formula), slow.admission(formula)), (8, 8))
 
 
+def check_turns_by_hand(tally, rng):
+    """The cases of sine and cosine, and the formulas that they take or refuse
+    by 15, whatever the angle."""
+    for question, cases in ((sine, SINES), (cosine, COSINES)):
+        for formula, angle, expected in cases:
+            tally.same(f"{question.__name__} of {angle:08x} by hand",
+                       outcome(question, sheet_of([formula]), 1, angle),
+                       expected)
+    for formulas, expected in ((FIT, 0), (UNFIT, 15)):
+        for formula in formulas:
+            sheet = sheet_of([formula])
+            for angle in EDGE_ANGLES:
+                for ask in (ask_sine, ask_cosine):
+                    tally.same(f"{formula} at {angle:08x}",
+                               answer_to(*ask(sheet, 1, angle))[0], expected)
+
+
+def formulas_to_turn(rng):
+    """Fit formulas: a sine's, some with ties, some with no room below M."""
+    yield SERIES
+    for _ in range(25):
+        yield quarter_formula(rng)
+        yield full_quarter_formula(rng)
+        yield tied_quarter_formula(rng)[0]
+
+
+def angles_to_turn(rng):
+    """Edges, and in each quarter a tie and any angle."""
+    return (*(rng.choice(EDGE_ANGLES) for _ in range(6)),
+            *(draw(rng, quarter) for quarter in range(4)
+              for draw in (tied_angle_in, angle_in)))
+
+
+def check_turns(tally, rng):
+    """Sine and cosine against slow definitions; they are words."""
+    for formula in formulas_to_turn(rng):
+        sheet = sheet_of([formula])
+        for angle in angles_to_turn(rng):
+            for question, definition in ((sine, slow.sine),
+                                         (cosine, slow.cosine)):
+                found = question(sheet, 1, angle)
+                tally.same(f"{question.__name__} of {formula} at {angle:08x}",
+                           found, definition(formula, angle))
+                tally.same(f"{found} is a word", is_word(found), True)
+
+
+def check_mirrored_angles(tally, rng):
+    """Half a turn more negates both sine and cosine; half a turn minus the
+    angle keeps the sine, and the angle negated the cosine, and each negates
+    the other. At 0 the sine is 0, at a quarter the formula's answer at one."""
+    for formula in formulas_to_turn(rng):
+        sheet = sheet_of([formula])
+        for angle in (0, QUARTER, HALF_TURN, *angles_to_turn(rng)):
+            found = sine(sheet, 1, angle), cosine(sheet, 1, angle)
+            for mirrored, signs in ((angle + HALF_TURN, (-1, -1)),
+                                    (HALF_TURN - angle, (1, -1)),
+                                    (-angle, (-1, 1))):
+                image = wrapped(mirrored)
+                tally.same(f"{formula} at {angle:08x} and {image:08x}",
+                           (sine(sheet, 1, image), cosine(sheet, 1, image)),
+                           (signs[0] * found[0], signs[1] * found[1]))
+        at_one = evaluate(sheet, 1, ONE)
+        for quarter, expected in enumerate((0, at_one, 0, -at_one)):
+            angle = quarter * QUARTER
+            tally.same(f"sine of {formula} at {angle:08x}",
+                       sine(sheet, 1, angle), expected)
+            tally.same(f"cosine of {formula} a quarter earlier",
+                       cosine(sheet, 1, wrapped(angle - QUARTER)), expected)
+
+
+def check_a_sine(tally, rng):
+    """Of the sine's own series, the squares of sine and cosine make one, but
+    for a few steps, and the sine is one half at a twelfth of a turn."""
+    sheet = sheet_of([SERIES])
+    for angle in (*EDGE_ANGLES, *(rng.getrandbits(32) for _ in range(500))):
+        s, c = sine(sheet, 1, angle), cosine(sheet, 1, angle)
+        tally.same(f"squares at {angle:08x}, {s} and {c}",
+                   abs(product(s, s) + product(c, c) - ONE) <= 8, True)
+    twelfth = (1 << 32) // 12
+    tally.same("sine at a twelfth",
+               abs(sine(sheet, 1, twelfth) - ONE // 2) <= 4, True)
+
+
 def check_doubles(tally, rng):
     """Patterns against the value worked out from their bits in fractions; a
     negated double is taken as the negated word."""
@@ -388,6 +475,36 @@ def check_questions(tally, rng):
     tally.same("formula", outcome(formula_of, broken, 5), refused(1, 24))
 
 
+def check_order_of_15(tally, rng):
+    """15 after 11, and 11 after a sheet's own refusals, for every angle; a
+    formula is judged only when it is asked for."""
+    unfit = polynomial_record(5, (ONE,), 0, ONE - 1, ODD)
+    other = polynomial_record(6, (0, ONE), 0, ONE)
+    fit = polynomial_record(7, (ONE,), 0, ONE, ODD)
+    three, end = framing(START, 3), framing(END, 3)
+    sheet = three + unfit + other + fit + end
+    unread = three + unfit + other + cut_record(fit, 19) + end
+    for angle in EDGE_ANGLES:
+        for question in (sine, cosine):
+            for given, number, expected in (
+                    (sheet, 5, refused(15)), (sheet, 6, refused(15)),
+                    (sheet, 4, refused(11)), (sheet, 8, refused(11)),
+                    (unread, 5, refused(2, 52)), (unread, 4, refused(2, 52)),
+                    (sheet[:-1], 5, refused(1, 72)),
+                    (sheet[:-1], 8, refused(1, 72)),
+                    (sheet + b"\0", 6, refused(9, 80)),
+                    (sheet + b"\0", 7, refused(9, 80)),
+                    (b"", 5, refused(1, 0))):
+                tally.same(f"{question.__name__} {number} at {angle:08x}",
+                           outcome(question, given, number, angle), expected)
+        for ask, question in ((ask_sine, sine), (ask_cosine, cosine)):
+            tally.same("answered", answer_to(*ask(sheet, 7, angle)),
+                       bytes(5) + question(sheet, 7, angle).to_bytes(
+                           4, "little", signed=True))
+            tally.same("refused", answer_to(*ask(sheet, 5, angle)),
+                       b"\x0f" + bytes(8))
+
+
 def check_ends(tally, rng):
     """Doubles of half steps at an interval's ends, and the doubles next to
     them towards 0: rounding comes first. The formula is x itself."""
@@ -489,11 +606,13 @@ def check_sheet_writer(tally, rng):
 
 
 # The bytes of a question about a sheet that come before the sheet.
-BEFORE_THE_SHEET = {COUNT: 0, FORMULA: 2, EVALUATE: 6, DOUBLE: 10, INTERVAL: 2}
+BEFORE_THE_SHEET = {COUNT: 0, FORMULA: 2, EVALUATE: 6, DOUBLE: 10, INTERVAL: 2,
+                    SINE: 6, COSINE: 6}
 
 
 def kinds_asked(question, content):
-    """The kinds of the formulas that an accepted question is about."""
+    """The kinds of the formulas that a question is about which is accepted, or
+    refused by 15."""
     if question == RECORD:
         return {unpacked_fields(content).kind}
     if question == SHEET:
@@ -506,7 +625,7 @@ def kinds_asked(question, content):
 
 def check_vectors(tally, rng):
     """The committed vectors are this oracle's answers, and every refusal that
-    a question has is among them, and every kind accepted."""
+    a question has is among them, and every kind accepted or refused by 15."""
     packed = Path(__file__).with_name("vectors.xz").read_bytes()
     met = set()
     kinds = set()
@@ -514,19 +633,22 @@ def check_vectors(tally, rng):
     for question, content, found in taken_apart(lzma.decompress(packed)):
         tally.same(f"vector {count}", found, answer_to(question, content))
         met.add((question, found[0]))
-        if found[0] == 0:
-            kinds |= {(question, kind)
+        if found[0] in (0, 15):
+            kinds |= {(question, found[0], kind)
                       for kind in kinds_asked(question, content)}
         count += 1
     tally.same("at least 10,000 vectors", count >= 10000, True)
     tally.same("every kind in every question", kinds,
-               {(question, kind) for question in range(1, 8)
-                for kind in KINDS})
+               {*((question, 0, kind) for question in range(1, 8)
+                  for kind in KINDS),
+                *((question, 15, kind) for question in (8, 9)
+                  for kind in KINDS), (8, 0, ODD), (9, 0, ODD)})
     sheet = range(10)
     for question, numbers in (
             (1, sheet), (2, (*sheet, 11)), (3, (*sheet, 10, 11)),
             (4, (*sheet, 10, 11, 13)), (5, (*sheet, 11)),
-            (6, (0, 2, 3, 6, 7, 8, 12)), (7, (*range(9), 12))):
+            (6, (0, 2, 3, 6, 7, 8, 12)), (7, (*range(9), 12)),
+            (8, (*sheet, 11, 15)), (9, (*sheet, 11, 15))):
         tally.same(f"question {question}", sorted(
             number for asked, number in met if asked == question),
             sorted(numbers))
@@ -534,9 +656,10 @@ def check_vectors(tally, rng):
 
 CHECKS = (check_by_hand, check_rounding, check_bounds_and_roots,
           check_formulas, check_polynomials, check_opposite_arguments,
-          check_doubles, check_order, check_questions, check_ends,
-          check_round_trips, check_record_writer, check_sheet_writer,
-          check_vectors)
+          check_turns_by_hand, check_turns, check_mirrored_angles,
+          check_a_sine, check_doubles, check_order, check_questions,
+          check_order_of_15, check_ends, check_round_trips,
+          check_record_writer, check_sheet_writer, check_vectors)
 
 
 def main():

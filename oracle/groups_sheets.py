@@ -19,7 +19,7 @@ from writing import start_or_end
 
 
 def any_question(rng, sheet, number):
-    """One of the five questions about a sheet, the count more often; now and
+    """One of the questions 1 to 5 about a sheet, the count more often; now and
     then about a number that is not there."""
     number = rng.choice((number, number, number, 40000))
     return rng.choice((
@@ -32,7 +32,7 @@ def any_question(rng, sheet, number):
 
 
 def small_sheets(rng):
-    """Good sheets of 1 to 3 formulas: all five questions about each formula,
+    """Good sheets of 1 to 3 formulas: questions 1 to 5 about each formula,
     arguments at lo, hi, between and just outside, and a number not there."""
     for size in (1, 1, 2, 3) * 12:
         formulas = good_formulas(rng, size)

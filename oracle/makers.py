@@ -1,4 +1,5 @@
-"""Makers of words, formulas and sheets for the vectors, from a random.Random.
+"""Makers of words, formulas, angles and sheets for the vectors, from a
+random.Random.
 
 Only whole-number draws are used (getrandbits, randrange, choice).
 """
@@ -11,6 +12,7 @@ from formulas import (
     factor, polynomial, verdict, word_count)
 from number import M, ONE, bound_product, bound_quotient, product, quotient
 from sheet import END, START
+from turn import QUARTER, wrapped
 from writing import record_of, start_or_end
 
 KINDS = tuple(SHAPES)
@@ -251,6 +253,54 @@ def tied_formula(rng, kind, powers=(None, None), mode=0):
         formula = Formula(kind, 1, -x, x, p, q, mode, words)
         if verdict(formula) == 0:
             return formula
+
+
+# Formulas for sine and cosine, and angles (request M-102).
+
+# At each quarter's beginning, and about it: single parts, ties of f / 2^6 and
+# next to them, and a whole step.
+EDGE_ANGLES = tuple(
+    wrapped(quarter * QUARTER + parts) for quarter in range(4)
+    for parts in (-96, -64, -33, -32, -31, -1, 0, 1, 31, 32, 33, 64, 96))
+
+
+def quarter_formula(rng, kind=ODD, number=1, p=None):
+    """An accepted formula whose interval holds 0 to one, often just. It is
+    narrowed from another, which makes no bound larger."""
+    while True:
+        drawn = good_formula(rng, kind, number, p)
+        a = largest(drawn)
+        if a >= ONE:
+            below = 0 if kind == ROOT else rng.choice((0, 0, 1, ONE, a))
+            hi = rng.choice((ONE, ONE, min(ONE + 1, a), a))
+            return drawn._replace(lo=-below, hi=hi)
+
+
+def full_quarter_formula(rng):
+    """An odd formula on 0 to one whose answer at one is M, or nearly."""
+    while True:
+        drawn = full_polynomial(rng, ODD)
+        if largest(drawn) == ONE:
+            return drawn._replace(lo=0, hi=ONE)
+
+
+def tied_quarter_formula(rng):
+    """An odd formula that meets ties at an argument between 0 and one, and
+    that argument."""
+    while True:
+        tied = tied_formula(rng, ODD)
+        formula = tied._replace(lo=rng.choice((0, -ONE)), hi=ONE)
+        if tied.hi < ONE and verdict(formula) == 0:
+            return formula, tied.hi
+
+
+def angle_in(rng, quarter):
+    return quarter * QUARTER + rng.getrandbits(30)
+
+
+def tied_angle_in(rng, quarter):
+    """An angle whose f / 2^6 is a tie."""
+    return quarter * QUARTER + 64 * rng.getrandbits(24) + 32
 
 
 def good_formulas(rng, count):

@@ -1,4 +1,4 @@
-"""The seven questions as bytes: how each is put, and how it is answered.
+"""The nine questions as bytes: how each is put, and how it is answered.
 
 README.md has the layout. A question put is a pair: its number and its bytes.
 """
@@ -10,12 +10,14 @@ from evaluation import evaluate
 from formulas import Formula
 from refusal import Refused
 from sheet import formula_count, formula_of
+from turn import cosine, sine
 from writing import write_record, write_sheet
 
 FIELDS = "<HHiiHHH32i"
 FIELD_WORDS = 32
 
-COUNT, FORMULA, EVALUATE, DOUBLE, INTERVAL, RECORD, SHEET = range(1, 8)
+(COUNT, FORMULA, EVALUATE, DOUBLE, INTERVAL, RECORD, SHEET, SINE,
+ COSINE) = range(1, 10)
 
 
 def packed_fields(formula):
@@ -64,6 +66,14 @@ def ask_sheet(run, room):
     return SHEET, pack("<H", room) + run
 
 
+def ask_sine(sheet, number, angle):
+    return SINE, pack("<HI", number, angle) + sheet
+
+
+def ask_cosine(sheet, number, angle):
+    return COSINE, pack("<HI", number, angle) + sheet
+
+
 # Answering them: each gives the bytes of its values, or is refused.
 
 
@@ -109,6 +119,16 @@ def sheet_values(content):
     return pack("<I", length) + buffer
 
 
+def sine_values(content):
+    number, angle = unpack_from("<HI", content)
+    return pack("<i", sine(content[6:], number, angle))
+
+
+def cosine_values(content):
+    number, angle = unpack_from("<HI", content)
+    return pack("<i", cosine(content[6:], number, angle))
+
+
 VALUES = {
     COUNT: count_values,
     FORMULA: formula_values,
@@ -117,11 +137,13 @@ VALUES = {
     INTERVAL: interval_values,
     RECORD: record_values,
     SHEET: sheet_values,
+    SINE: sine_values,
+    COSINE: cosine_values,
 }
 
 # How long the values are; a writer's are as long as its buffer and 4 bytes.
 SIZES = {COUNT: 2, FORMULA: calcsize(FIELDS), EVALUATE: 4, DOUBLE: 8,
-         INTERVAL: 16}
+         INTERVAL: 16, SINE: 4, COSINE: 4}
 
 
 def values_when_refused(question, content):

@@ -100,6 +100,30 @@ def answer(formula, x):
     return root(x)
 
 
+def in_quarters(angle):
+    """The exact part of a turn that an angle is, in quarters: 0 to below 4."""
+    return 4 * Fraction(angle, 2**32)
+
+
+def sine(formula, angle):
+    """The argument goes from 0 to one in a quarter, in two more to minus one,
+    and in the last to 0; the odd formula answers with its sign."""
+    turned = in_quarters(angle)
+    if 1 < turned <= 3:
+        turned = 2 - turned
+    elif turned > 3:
+        turned -= 4
+    return answer(formula, nearest(turned * STEPS))
+
+
+def cosine(formula, angle):
+    """The argument is one at 0, and less by as many quarters as the angle is
+    away from 0, on whichever side is nearer."""
+    turned = in_quarters(angle)
+    away = min(turned, 4 - turned)
+    return answer(formula, nearest((1 - away) * STEPS))
+
+
 def exact_and_distance(c, x):
     """A polynomial's exact value at a word x, in steps, and how far from it
     the answer may lie: half of 1 + |x| + ... + |x|^(n-1), x in ones."""

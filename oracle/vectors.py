@@ -12,13 +12,14 @@ from struct import pack, unpack_from
 
 import groups_numbers
 import groups_sheets
+import groups_turns
 import groups_writers
 from questions import answer_to
 
 SEED = 1967
 
 GROUPS = (*groups_sheets.GROUPS, *groups_numbers.GROUPS,
-          *groups_writers.GROUPS)
+          *groups_writers.GROUPS, *groups_turns.GROUPS)
 
 
 def vector(question, content):

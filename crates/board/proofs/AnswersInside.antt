@@ -1,10 +1,12 @@
 -- Demand 3: a formula in an accepted sheet answers every argument in its own interval, by its kind's rule, and refuses every other by 10.
 -- `HasFormula s bytes n` says that the sheet is accepted and has a formula numbered n (`found-exactly` of the reader's promises).
-use Rattle.whole.proofs.Basics.{_≡_, _∙_, refl, sym, ap, _⊎_, inl, inr, List, ℕ, ℤ, _≤ℤ_, _<ℤ_}
+use Rattle.whole.proofs.Basics.{_≡_, _∙_, refl, sym, ap, subst, _⊎_, inl, inr, List, ℕ, ℤ, _≤ℤ_, _<ℤ_}
 use Rattle.word.specs.Words.{Word, NotZero}
 use Rattle.word.specs.Lists.{All}
 use Rattle.formula.specs.declared.Formula.{Formula}
-use Rattle.formula.specs.Formula.{answerOf, numbersOf, divisorsOf}
+use Rattle.formula.specs.declared.Kind.{Kind}
+use Rattle.formula.specs.declared.Kind.the-variants.{Odd}
+use Rattle.formula.specs.Formula.{answerOf, answerBy, numbersOf, numbersBy, divisorsOf, Answerable}
 use Rattle.formula.proofs.StaysInRange.{formula-stays}
 use Rattle.layout.specs.Fields.{wordsIn}
 use Rattle.sheet.specs.Reader.{formulaRead, HasFormula}
@@ -45,3 +47,10 @@ module _ (s : ℕ) (bytes : List ℕ) (n : ℕ) (given : HasFormula s bytes n) w
     -- and no rounded product, quotient or sum on the way leaves the word range, nor is a divisor 0
     pub sheet-stays : All Word (numbersOf s (f .shape) (wordsIn f) x) × All NotZero (divisorsOf s (f .shape) (wordsIn f) x)
     sheet-stays = formula-stays s (f .shape) (wordsIn f) x (answerable s f x l h (given-scale s bytes n given) (given-fits s bytes n given .0))
+
+-- ---- an odd formula's answer is a word: it is the first of its numbers on the way
+pub odd-word : (s : ℕ) (f : Formula) (x : ℤ) → f .shape .kind ≡ Odd → Answerable s (f .shape) (wordsIn f) x → Word (answerOf s (f .shape) (wordsIn f) x)
+odd-word s f x e a =
+    let h = f .shape in
+    subst (λ (k : Kind). All Word (numbersBy k s (h .p) (h .q) (h .mode) (wordsIn f) x) → Word (answerBy k s (h .p) (h .q) (h .mode) (wordsIn f) x)) (sym e) (λ n. n .0)
+    (formula-stays s h (wordsIn f) x a .0)

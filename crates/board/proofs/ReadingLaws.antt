@@ -1,8 +1,9 @@
 -- From the place that the reader answers to what the board answers.
-use Rattle.whole.proofs.Basics.{_≡_, sym, ap, List, ℕ}
+use Rattle.whole.proofs.Basics.{_≡_, refl, sym, ap, List, ℕ}
 use Rattle.formula.specs.declared.Formula.{Formula}
+use Rattle.layout.specs.Fields.{rowFor, loOf, hiOf, shapeOf, formulaOf}
 use Rattle.faults.specs.declared.Refusal.{Refusal}
-use Rattle.sheet.specs.Reader.{formulaPlace, formulaAt, readAt, formulaRead}
+use Rattle.sheet.specs.Reader.{formulaPlace, formulaIn, formulaAt, readAt, formulaRead}
 use Rattle.sheet.specs.declared.answers.Place.{Place}
 use Rattle.sheet.specs.declared.answers.Place.the-variants.{At, Refused as Absent}
 use Rattle.answering.specs.declared.answers.Evaluation.{Evaluation}
@@ -21,3 +22,17 @@ module _ (s : ℕ) (bytes : List ℕ) (n : ℕ) where
     pub when-refused : (q : Refusal) → formulaPlace s bytes n ≡ Absent q → Refused q ≡ whenGiven (formulaRead s bytes n .found) (answer (formulaRead s bytes n .formula))
     unfolding formulaRead
     when-refused q e = by-place (Absent q) (formulaPlace s bytes n) (sym e)
+
+-- ---- what a record's own fields are of the formula in it
+module _ (b : List ℕ) where
+  pub kind-in : formulaIn b .shape .kind ≡ rowFor b .kind
+  unfolding formulaOf shapeOf
+  kind-in = refl
+
+  pub lo-in : formulaIn b .lo ≡ loOf b
+  unfolding formulaOf
+  lo-in = refl
+
+  pub hi-in : formulaIn b .hi ≡ hiOf b
+  unfolding formulaOf
+  hi-in = refl

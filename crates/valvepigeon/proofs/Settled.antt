@@ -27,6 +27,10 @@ use Rattle.valvepigeon.proofs.vp_evaluate_double.Kinds as double-kinds
 use Rattle.valvepigeon.proofs.vp_evaluate_double.Reads as double-reads
 use Rattle.valvepigeon.proofs.vp_interval.Kinds as interval-kinds
 use Rattle.valvepigeon.proofs.vp_interval.Reads as interval-reads
+use Rattle.valvepigeon.proofs.vp_sine.Kinds as sine-kinds
+use Rattle.valvepigeon.proofs.vp_sine.Reads as sine-reads
+use Rattle.valvepigeon.proofs.vp_cosine.Kinds as cosine-kinds
+use Rattle.valvepigeon.proofs.vp_cosine.Reads as cosine-reads
 use Rattle.valvepigeon.proofs.vp_write_record.Kinds as record-kinds
 use Rattle.valvepigeon.proofs.vp_write_record.Reads as record-reads
 use Rattle.valvepigeon.proofs.vp_write_sheet.Kinds as sheet-kinds
@@ -48,6 +52,12 @@ evaluate-double-asks-nothing κs a = tt
 
 pub interval-asks-nothing : AsksNothing interval-kinds.ps interval-reads.Asked
 interval-asks-nothing κs a = tt
+
+pub sine-asks-nothing : AsksNothing sine-kinds.ps sine-reads.Asked
+sine-asks-nothing κs a = tt
+
+pub cosine-asks-nothing : AsksNothing cosine-kinds.ps cosine-reads.Asked
+cosine-asks-nothing κs a = tt
 
 pub write-record-asks-nothing : AsksNothing record-kinds.ps record-reads.Asked
 write-record-asks-nothing κs a = tt
@@ -83,6 +93,12 @@ spans-once (Withheld r) f x y p q = p ∙ sym q
 
 pub interval-settled : Settled interval-kinds.ps interval-kinds.r interval-reads.Learnt
 interval-settled κs a x y s t p q = (let r = formulaRead places (now (a .0)) (a .1 .0) in spans-once (r .found) (r .formula) x y p q)
+
+pub sine-settled : Settled sine-kinds.ps sine-kinds.r sine-reads.Learnt
+sine-settled κs a x y s t p q = p ∙ sym q
+
+pub cosine-settled : Settled cosine-kinds.ps cosine-kinds.r cosine-reads.Learnt
+cosine-settled κs a x y s t p q = p ∙ sym q
 
 pub write-record-settled : Settled record-kinds.ps record-kinds.r record-reads.Learnt
 write-record-settled κs a x y s t p q = p .0 ∙ sym (q .0)

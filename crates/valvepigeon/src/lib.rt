@@ -3,6 +3,7 @@ ghost use mathlib.Core.Path.{_≡_};
 ghost use lib.ListN.{length};
 ghost use Rattle.sheet.specs.Reader.{formulaCount, formulaRead};
 ghost use Rattle.board.specs.Board.{evaluated};
+ghost use Rattle.turn.specs.Sine.{sineOf, cosineOf};
 ghost use Rattle.desk.specs.Desk.{evaluatedDouble};
 ghost use Rattle.record_writer.specs.Answers.{bufferAfter};
 ghost use Rattle.record_writer.specs.RecordWriter.{recordWriting, bytesOf};
@@ -57,6 +58,20 @@ pub extern "C" fn vp_interval(sheet: &[u8], number: u16) -> IntervalEnds
     ensures { λ r. ⌜ SpannedBy places (formulaRead places (now (sheet .entry)) number) r ⌝ }
 {
     conversions::spanned(desk::interval(sheet, number, PLACES))
+}
+
+#[no_mangle]
+pub extern "C" fn vp_sine(sheet: &[u8], number: u16, angle: u32) -> WorkedWord
+    ensures { λ r. ⌜ r ≡ worked (sineOf places (now (sheet .entry)) number angle) ⌝ }
+{
+    conversions::worked(turn::sine(sheet, number, angle, PLACES))
+}
+
+#[no_mangle]
+pub extern "C" fn vp_cosine(sheet: &[u8], number: u16, angle: u32) -> WorkedWord
+    ensures { λ r. ⌜ r ≡ worked (cosineOf places (now (sheet .entry)) number angle) ⌝ }
+{
+    conversions::worked(turn::cosine(sheet, number, angle, PLACES))
 }
 
 #[no_mangle]

@@ -1,0 +1,132 @@
+-- Promise: half a turn more negates sine and cosine, half a turn minus an angle has the same sine, and the negated angle the negated sine and the same cosine,
+-- on every sheet, refusals too; sine of 0 is 0, and sine of a quarter turn is the board's answer at one. Quarters 2 and 3 have the arguments of 0 and 1 and
+-- the other sign; half a turn minus an angle folds to the same argument, but for 0 and half a turn, where an odd formula's answer is its own negation.
+use Rattle.whole.proofs.Basics.{_≡_, _∙_, refl, sym, ap, ap₂, Bool, true, false, cond, _⊎_, inl, inr, List, ℕ, _+_, _-_, _%_, _^_, _≤_, arith, eqb, ℤ, pos, negℤ}
+use native.Mathlib.Decide.{decLe}
+use lib.IntN.{negℤ-negℤ}
+use lib.Pow.{pow-add, pow-pos}
+use Rattle.whole.proofs.Diff.{v, ⊖_}
+use Rattle.whole.proofs.Linear.{zarith}
+use Rattle.whole.proofs.Order.{≤ℤ-trans, pos-le}
+use Rattle.word.specs.Rounded.{rounded}
+use Rattle.word.specs.Words.{unit}
+use Rattle.word.proofs.RoundedLaws.{rounded-odd, rounded-exact}
+use Rattle.faults.specs.Guard.{guard}
+use Rattle.sheet.specs.Reader.{foundNumber, formulaRead}
+use Rattle.sheet.specs.declared.answers.Found.{Found}
+use Rattle.sheet.specs.declared.answers.Found.the-variants.{Given, Refused as Withheld}
+use Rattle.sheet.proofs.FormulasGiven.{given-scale}
+use Rattle.answering.specs.Answering.{evaluationWord, refused, answered}
+use Rattle.answering.specs.declared.answers.Evaluation.{Evaluation}
+use Rattle.answering.specs.declared.answers.Evaluation.the-variants.{Answered, Refused}
+use Rattle.board.specs.Board.{whenGiven, evaluated}
+use Rattle.board.proofs.AnswersInside.{formulaGiven, by-formula}
+use Rattle.board.proofs.BothSides.{sheet-negated}
+use Rattle.turn.specs.Angles.{halfTurn, quarterTurn, Angle, angleSum, angleDifference, quarterOf, restOf, argumentIn}
+use Rattle.turn.specs.Sine.{sineFault, HasSine, negated, signedIn, sineIn, sineOf, cosineOf}
+use Rattle.turn.proofs.AngleLaws.{by-quarter, sum-angle, difference-angle, half-more-parts, half-minus-start, half-minus-inside, negated-angle, negated-quarter, half-quarter}
+use Rattle.turn.proofs.FaultLaws.{or-fifteen, sine-needs}
+
+-- ---- negation: twice is none, only 0 is its own, and it goes past refusals, both ways
+negated-back : (e : Evaluation) → negated (negated e) ≡ e
+negated-back (Answered w) = ap answered (negℤ-negℤ (w .word))
+negated-back (Refused r) = refl
+
+own-negation : (w : ℤ) → w ≡ negℤ w → w ≡ pos 0
+own-negation w e = omega (zarith, (⊖ v w) .is)
+
+past : (a : Found) (fault : ℕ) (e : Evaluation) → whenGiven a (guard fault refused (negated e)) ≡ negated (whenGiven a (guard fault refused e))
+past (Withheld r) fault e = refl
+past Given fault e = at (eqb fault 0)
+  where
+    at : (t : Bool) → cond t (negated e) (refused fault) ≡ negated (cond t e (refused fault))
+    at true = refl
+    at false = refl
+
+past-back : (a : Found) (fault : ℕ) (e : Evaluation) → whenGiven a (guard fault refused e) ≡ negated (whenGiven a (guard fault refused (negated e)))
+past-back a fault e = sym (negated-back _) ∙ ap negated (sym (past a fault e))
+
+module _ (s : ℕ) (bytes : List ℕ) (n : ℕ) where
+  abbrev found : Found
+  found = formulaRead s bytes n .found
+
+  abbrev fault : ℕ
+  fault = sineFault s (formulaGiven s bytes n)
+
+  -- the board's answer, before its sign
+  abbrev plain : ℕ → ℕ → Evaluation
+  plain quarter f = evaluated s bytes n (argumentIn s quarter f)
+
+  -- ---- a sheet that has the sine: no refusal but the board's own
+  module _ (has : HasSine s bytes n) where
+    pub sine-given : (quarter f : ℕ) → sineIn s bytes n quarter f ≡ signedIn quarter (plain quarter f)
+    sine-given quarter f = by-formula s bytes n (has .0) _ ∙ ap (λ (t : ℕ). guard t refused (signedIn quarter (plain quarter f))) (has .1)
+
+    zero-answer : evaluated s bytes n (pos 0) ≡ answered (pos 0)
+    zero-answer =
+        let k = sine-needs s (formulaGiven s bytes n) (has .1) in
+        let h = ≤ℤ-trans (pos-le {a = 0} {b = unit s} (omega arith)) (k .2) in
+        let e = sheet-negated s bytes n (has .0) (pos 0) (k .1) h (k .1) h (rw (k .0) tt) in
+        let w = ap evaluationWord e in
+        e ∙ ap answered (sym w ∙ own-negation _ w)
+
+    pub sine-of-zero : sineOf s bytes n 0 ≡ answered (pos 0)
+    sine-of-zero = sine-given 0 0 ∙ ap (evaluated s bytes n) (own-negation _ (rounded-odd (pos 0) (2 ^ (30 - s)))) ∙ zero-answer
+
+    -- 2^30 is 2^s times 2^(30 - s)
+    one-argument : s ≤ 30 → argumentIn s 1 0 ≡ pos (unit s)
+    one-argument h =
+        let e : s + (30 - s) ≡ 30 = omega arith in
+        ap (λ (k : ℕ). rounded (pos k) (2 ^ (30 - s))) (ap (λ (k : ℕ). 2 ^ k) (sym e) ∙ pow-add 2 s (30 - s))
+        ∙ rounded-exact (pos (unit s)) (2 ^ (30 - s)) (pow-pos (30 - s))
+
+    pub sine-of-quarter : sineOf s bytes n quarterTurn ≡ evaluated s bytes n (pos (unit s))
+    sine-of-quarter = sine-given 1 0 ∙ ap (evaluated s bytes n) (one-argument (omega (arith, given-scale s bytes n (has .0) .most)))
+
+  -- ---- half a turn more
+  pub half-more : (a : ℕ) → Angle a → sineOf s bytes n (angleSum a halfTurn) ≡ negated (sineOf s bytes n a)
+  half-more a h =
+      let f = restOf a in
+      let p = half-more-parts a h in
+      ap₂ (sineIn s bytes n) (p .0) (p .1)
+      ∙ by-quarter (λ (q : ℕ). sineIn s bytes n ((q + 2) % 4) f ≡ negated (sineIn s bytes n q f))
+      (past found fault (plain 0 f)) (past found fault (plain 1 f)) (past-back found fault (plain 0 f)) (past-back found fault (plain 1 f)) a h
+
+  -- ---- half a turn minus an angle. Of the quarters' starts only 0 and half a turn change places
+  half-as-zero : sineOf s bytes n halfTurn ≡ sineOf s bytes n 0
+  half-as-zero = at found refl (or-fifteen s (formulaGiven s bytes n))
+    where
+      at : (a : Found) → found ≡ a → (fault ≡ 0) ⊎ (fault ≡ 15) → sineOf s bytes n halfTurn ≡ sineOf s bytes n 0
+      at (Withheld r) e k = rw e
+      at Given e (inl z) = let q = sine-of-zero (ap foundNumber e, z) in half-more 0 (omega arith) ∙ ap negated q ∙ sym q
+      at Given e (inr z) = rw (e, z)
+
+  pub half-minus : (a : ℕ) → Angle a → sineOf s bytes n (angleDifference halfTurn a) ≡ sineOf s bytes n a
+  half-minus a h = at (decLe (restOf a) 0)
+    where
+      at : Dec (restOf a ≤ 0) → sineOf s bytes n (angleDifference halfTurn a) ≡ sineOf s bytes n a
+      at (yes k) =
+          let z : restOf a ≡ 0 = omega arith in
+          let p = half-minus-start a h z in
+          ap₂ (sineIn s bytes n) (p .0) (p .1)
+          ∙ by-quarter (λ (q : ℕ). sineIn s bytes n ((6 - q) % 4) 0 ≡ sineIn s bytes n q 0) half-as-zero refl (sym half-as-zero) refl a h
+          ∙ ap (sineIn s bytes n (quarterOf a)) (sym z)
+      at (no k) =
+          let f = restOf a in
+          let p = half-minus-inside a h (omega arith) in
+          let back : quarterTurn - (quarterTurn - f) ≡ f = omega arith in
+          ap₂ (sineIn s bytes n) (p .0) (p .1)
+          ∙ by-quarter (λ (q : ℕ). sineIn s bytes n ((5 - q) % 4) (quarterTurn - f) ≡ sineIn s bytes n q f) (rw back) refl (rw back) refl a h
+
+  -- ---- by these two
+  pub sine-negated : (a : ℕ) → Angle a → sineOf s bytes n (angleDifference 0 a) ≡ negated (sineOf s bytes n a)
+  sine-negated a h =
+      ap (sineOf s bytes n) (negated-angle a h)
+      ∙ half-more (angleDifference halfTurn a) (difference-angle halfTurn a)
+      ∙ ap negated (half-minus a h)
+
+  pub cosine-same : (a : ℕ) → Angle a → cosineOf s bytes n (angleDifference 0 a) ≡ cosineOf s bytes n a
+  cosine-same a h = ap (sineOf s bytes n) (negated-quarter a h) ∙ half-minus (angleSum a quarterTurn) (sum-angle a quarterTurn)
+
+  pub cosine-half-more : (a : ℕ) → Angle a → cosineOf s bytes n (angleSum a halfTurn) ≡ negated (cosineOf s bytes n a)
+  cosine-half-more a h = ap (sineOf s bytes n) (half-quarter a h) ∙ half-more (angleSum a quarterTurn) (sum-angle a quarterTurn)

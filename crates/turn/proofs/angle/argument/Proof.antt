@@ -1,0 +1,58 @@
+-- `turn::angle::argument` meets its contract: f is divided by a shift that rounds, and what it gives is at most one.
+use Rattle.whole.proofs.Basics.{_≡_, _∙_, ap, ℕ, _-_, _^_, _≤_, arith, ℤ, pos, natAbs, w32, w64, needs}
+use lib.Pow.{pow-mono}
+use Rattle.whole.proofs.Diff.{n}
+use Rattle.whole.proofs.Fit.{fit, fit-abs}
+use Rattle.whole.proofs.Held.{back, Held, fits-code, held, held-nat, arg, known, cast}
+use Rattle.word.specs.Rounded.{rounded}
+use Rattle.turn.specs.Angles.{quarterTurn, quarterOf, restOf, foldedIn, argumentOf}
+use Rattle.turn.proofs.ArgumentLaws.{rest-most, folded-most, argument-size}
+use Rattle.turn.proofs.angle.argument.Statement.{statement}
+use Rattle.turn.proofs.angle.argument.Tie as tie
+
+-- ---- what is handed on, and what comes back
+module _ (c : tie.After-folded) where
+  abbrev a : ℕ
+  a = c .before .args .angle
+
+  abbrev f : ℕ
+  f = c .folded .result
+
+  f-most : f ≤ quarterTurn
+  f-most = rw (c .folded .ensures) (folded-most (quarterOf a) (restOf a) (rest-most a))
+
+  held-f : Held w64 (pos f) (pos f)
+  held-f = arg (fit (n f) (omega (arith, f-most)))
+
+module _ (c : tie.After-rounded-shift) where
+  abbrev start : tie.Start
+  start = c .before .before
+
+  is-argument : c .rounded-shift .result ≡ argumentOf (start .args .s) (start .args .angle)
+  is-argument =
+      c .rounded-shift .ensures
+      ∙ ap (λ (z : ℤ). rounded z (2 ^ (30 - start .args .s))) (held (held-f (c .before)) ∙ ap pos (c .before .folded .ensures))
+
+  size : natAbs (argumentOf (start .args .s) (start .args .angle)) ≤ 2 ^ 28
+  size =
+      let b = start .args .angle in
+      omega (arith, argument-size (start .args .s) (start .pre) (quarterOf b) (restOf b) (rest-most b), pow-mono {i = start .args .s} {j = 28} (start .pre .most))
+
+  held-argument : Held w32 (back w64 (c .rounded-shift .result)) (argumentOf (start .args .s) (start .args .angle))
+  held-argument = cast (known is-argument (fit-abs (omega (arith, size)))) (fit-abs (omega (arith, size)))
+
+rounded-shift-requires : tie.Need-rounded-shift-requires
+rounded-shift-requires c κs =
+    let s = c .before .pre in
+    (omega (arith, held-nat (held-f c), f-most c), omega (arith, s .most), omega arith)
+
+pub argument-spec : {M : Type 1} → statement M
+argument-spec =
+    tie.close
+    (tie.spec
+    (λ c κs. search needs)
+    (λ c. search needs)
+    (λ c. search needs)
+    rounded-shift-requires
+    (λ c. fits-code (held-argument c))
+    (λ c. held (held-argument c)))

@@ -1,0 +1,73 @@
+-- `turn::sine` meets its contract: the sine by the record that stands at the place, or the place's refusal.
+use Rattle.whole.proofs.Basics.{_≡_, _∙_, refl, sym, List, ℕ, now, needs}
+use Rattle.formula.specs.declared.Formula.{Formula}
+use Rattle.sheet.specs.Reader.{formulaPlace, formulaRead, FormulaStands}
+use Rattle.sheet.specs.declared.answers.Found.{Found}
+use Rattle.sheet.specs.declared.answers.Found.the-variants.{Given, Refused as Withheld}
+use Rattle.sheet.specs.declared.answers.Place.the-variants.{At}
+use Rattle.sheet.proofs.Places.{place-standing}
+use Rattle.answering.specs.Answering.{answerAt}
+use Rattle.answering.specs.declared.answers.Evaluation.{Evaluation}
+use Rattle.board.specs.Board.{whenGiven}
+use Rattle.board.proofs.ReadingLaws.{when-at, when-refused}
+use Rattle.turn.specs.Angles.{quarterOf, argumentOf}
+use Rattle.turn.specs.Sine.{sineBy, sineOf}
+use Rattle.turn.proofs.sine.Statement.{statement}
+use Rattle.turn.proofs.sine.Tie as tie
+
+-- what a formula answers to the angle
+module _ (d : tie.Start) where
+  abbrev bytes : List ℕ
+  bytes = now (d .args .s)
+
+  abbrev answer : Formula → Evaluation
+  answer f = sineBy (d .args .places) f (quarterOf (d .args .angle)) (answerAt (d .args .places) f (argumentOf (d .args .places) (d .args .angle)))
+
+  -- where the formula is given, the board's answer is the formula's
+  as-board : let r = formulaRead (d .args .places) bytes (d .args .number) in whenGiven (r .found) (answer (r .formula)) ≡ sineOf (d .args .places) bytes (d .args .number) (d .args .angle)
+  as-board = let r = formulaRead (d .args .places) bytes (d .args .number) in by (r .found) (r .formula)
+    where
+      by : (a : Found) (f : Formula) → whenGiven a (answer f) ≡ whenGiven a (sineBy (d .args .places) f (quarterOf (d .args .angle)) (whenGiven a (answerAt (d .args .places) f (argumentOf (d .args .places) (d .args .angle)))))
+      by Given f = refl
+      by (Withheld q) f = refl
+
+-- the place that was answered, and what stands there
+module _ (c : tie.After-known-told) where
+  abbrev start : tie.Start
+  start = c .before .before .before .before .before
+
+  found : formulaPlace (start .args .places) (now (start .args .s)) (start .args .number) ≡ At (c .before .place .given .0 .0)
+  found = sym (c .before .before .before .formula-place .ensures) ∙ c .before .place .given .1
+
+  standing : FormulaStands (start .args .places) (now (start .args .s)) (c .before .place .given .0 .0)
+  standing = place-standing _ _ _ _ found
+
+record-at-requires : tie.Need-record-at-requires
+record-at-requires c κs = standing c .reach
+
+sine-of-requires : tie.Need-sine-of-requires
+sine-of-requires c κs = let t = standing (c .before) in (t .scale, rw (c .record-at .ensures) (t .here))
+
+returns : tie.Need-returns
+returns c =
+    let k = c .before .before in
+    let d = start k in
+    rw (c .before .record-at .ensures) at (c .sine-of .ensures) ∙ when-at (d .args .places) (bytes d) (d .args .number) (answer d) _ (found k) ∙ as-board d
+
+returns-2 : tie.Need-returns-2
+returns-2 c =
+    let p = c .before in
+    let d = p .before .before .before .before in
+    when-refused (d .args .places) (bytes d) (d .args .number) (answer d) _ (sym (p .before .before .formula-place .ensures) ∙ p .r .given .1) ∙ as-board d
+
+pub sine-spec : {M : Type 1} → statement M
+sine-spec =
+    tie.close
+    (tie.spec
+    (λ c κs. search needs)
+    (λ c. search needs)
+    record-at-requires
+    sine-of-requires
+    (λ c. search needs)
+    returns
+    returns-2)

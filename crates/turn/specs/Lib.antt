@@ -1,0 +1,3 @@
+-- Angles, and what sine and cosine answer to them.
+pub mod Angles
+pub mod Sine

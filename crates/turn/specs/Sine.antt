@@ -1,0 +1,78 @@
+-- Sine and cosine of an angle, by an odd formula of a whole sheet: the reader's refusals, then 15. The binary places are s.
+use mathlib.Core.Path.{_≡_, refl}
+use mathlib.Core.Bool.{cond}
+use mathlib.Core.List.{List, [], _∷_}
+use Prim.Native.Nat.{ℕ}
+use lib.Dec.{ltb}
+use lib.IntN.{ℤ, pos, negsuc, negℤ}
+use lib.Signed.{ltZ}
+use Rattle.word.specs.Words.{unit}
+use Rattle.formula.specs.declared.Kind.{Kind}
+use Rattle.formula.specs.declared.Kind.the-variants.{Polynomial, Rational, Fraction, Root, Odd, Even, NoFormula}
+use Rattle.formula.specs.declared.Formula.{Formula}
+use Rattle.layout.specs.Fields.{shape, padded, formula}
+use Rattle.faults.specs.Guard.{refusal, guard, orElse}
+use Rattle.sheet.specs.Reader.{readerRefusals, formulaRead, HasFormula}
+use Rattle.answering.specs.Answering.{refused, answered}
+use Rattle.answering.specs.declared.answers.Evaluation.{Evaluation}
+use Rattle.answering.specs.declared.answers.Evaluation.the-variants.{Answered, Refused}
+use Rattle.board.specs.Board.{whenGiven, evaluated}
+use Rattle.turn.specs.Angles.{quarterTurn, angleSum, quarterOf, restOf, argumentIn}
+
+-- the refusals that sine and cosine can give: the reader's and 15
+abbrev pub sineRefusals : List ℕ
+sineRefusals = 15 ∷ readerRefusals
+
+-- ---- 15: the formula is not of the kind odd
+abbrev pub oddFault : Kind → ℕ
+oddFault Polynomial = 15
+oddFault Rational = 15
+oddFault Fraction = 15
+oddFault Root = 15
+oddFault Odd = 0
+oddFault Even = 15
+oddFault NoFormula = 15
+
+-- or its interval does not hold 0 to one: lo is above 0, or hi below one
+unfoldable pub spanFault : ℕ → ℤ → ℤ → ℕ
+spanFault s lo hi = cond (ltZ (pos 0) lo) 15 (cond (ltZ hi (pos (unit s))) 15 0)
+
+abbrev pub sineFault : ℕ → Formula → ℕ
+sineFault s f = orElse (oddFault (f .shape .kind)) (spanFault s (f .lo) (f .hi))
+
+-- the sheet is accepted, has a formula of the number n, and that is one for sine and cosine
+abbrev pub HasSine : ℕ → List ℕ → ℕ → Type 0
+HasSine s bytes n = HasFormula s bytes n × (sineFault s (formulaRead s bytes n .formula) ≡ 0)
+
+-- ---- negated in quarters 2 and 3
+abbrev pub negated : Evaluation → Evaluation
+negated (Answered w) = Answered (record { word = negℤ (w .word) })
+negated (Refused r) = Refused r
+
+abbrev pub signedIn : ℕ → Evaluation → Evaluation
+signedIn quarter e = cond (ltb quarter 2) e (negated e)
+
+-- ---- what the board answers at the argument, or its negation
+abbrev pub sineBy : ℕ → Formula → ℕ → Evaluation → Evaluation
+sineBy s f quarter e = guard (sineFault s f) refused (signedIn quarter e)
+
+abbrev pub sineIn : ℕ → List ℕ → ℕ → ℕ → ℕ → Evaluation
+sineIn s bytes n quarter f = whenGiven (formulaRead s bytes n .found) (sineBy s (formulaRead s bytes n .formula) quarter (evaluated s bytes n (argumentIn s quarter f)))
+
+abbrev pub sineOf : ℕ → List ℕ → ℕ → ℕ → Evaluation
+sineOf s bytes n a = sineIn s bytes n (quarterOf a) (restOf a)
+
+-- cosine is sine of the angle plus a quarter
+abbrev pub cosineOf : ℕ → List ℕ → ℕ → ℕ → Evaluation
+cosineOf s bytes n a = sineOf s bytes n (angleSum a quarterTurn)
+
+-- ---- worked examples. 15 by the kind
+by-kind :
+    (oddFault Polynomial ≡ 15)
+    × (oddFault Rational ≡ 15)
+    × (oddFault Fraction ≡ 15)
+    × (oddFault Root ≡ 15)
+    × (oddFault Odd ≡ 0)
+    × (oddFault Even ≡ 15)
+    × (oddFault NoFormula ≡ 15)
+by-kind = (refl, refl, refl, refl, refl, refl, refl)

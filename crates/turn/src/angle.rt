@@ -1,0 +1,34 @@
+// From an angle to its formula's argument.
+ghost use mathlib.Core.Path.{_≡_};
+ghost use Rattle.word.specs.Words.{Scale};
+ghost use Rattle.turn.specs.Angles.{quarterOf, foldedIn, argumentOf, restOf};
+
+// An angle is a 32-bit part of a turn; this is a quarter of one.
+pub const QUARTER: u32 = 0x4000_0000;
+
+// The two top bits.
+pub fn quarter(angle: u32) -> u32
+    ensures { λ r. ⌜ r ≡ quarterOf angle ⌝ }
+{
+    angle >> 30
+}
+
+// f, the other 30 bits, and 2^30 - f in quarters 1 and 3.
+fn folded(angle: u32) -> u32
+    ensures { λ r. ⌜ r ≡ foldedIn (quarterOf angle) (restOf angle) ⌝ }
+{
+    let f = angle % QUARTER;
+    if quarter(angle) % 2 == 1 {
+        QUARTER - f
+    } else {
+        f
+    }
+}
+
+// f / 2^(30 - s), rounded as a product is: a quarter turn is one.
+pub fn argument(angle: u32, s: u32) -> i32
+    requires { ⌜ Scale s ⌝ }
+    ensures { λ r. ⌜ r ≡ argumentOf s angle ⌝ }
+{
+    word::rounded_shift(folded(angle) as i64, 30 - s) as i32
+}

@@ -1,0 +1,106 @@
+// Sine and cosine by an odd formula: a whole sheet, a number and an angle in; an answer or a numbered refusal out.
+ghost use mathlib.Core.Path.{_≡_};
+ghost use Rattle.word.specs.Words.{Word, Scale};
+ghost use Rattle.records.specs.Sheets.{FormulaBytes};
+ghost use Rattle.sheet.specs.Reader.{formulaIn};
+ghost use Rattle.answering.specs.Answering.{evaluationWord, answerAt};
+ghost use Rattle.turn.specs.Angles.{quarterOf, argumentOf};
+ghost use Rattle.turn.specs.Sine.{oddFault, spanFault, sineFault, negated, sineBy, sineOf, cosineOf};
+
+pub mod angle;
+
+use answering::answers::Evaluation;
+use answering::answers::Worked;
+use formula::Kind;
+use sheet::answers::Place;
+use sheet::reader;
+
+fn odd_fault(kind: Kind) -> u8
+    ensures { λ r. ⌜ r ≡ oddFault kind ⌝ }
+{
+    match kind {
+        Kind::Polynomial => 15,
+        Kind::Rational => 15,
+        Kind::Fraction => 15,
+        Kind::Root => 15,
+        Kind::Odd => 0,
+        Kind::Even => 15,
+        Kind::NoFormula => 15,
+    }
+}
+
+// 15 for an interval that does not hold 0 to one.
+fn span_fault(lo: i32, hi: i32, s: u32) -> u8
+    requires { ⌜ Scale s ⌝ }
+    ensures { λ r. ⌜ r ≡ spanFault s lo hi ⌝ }
+{
+    if 0 < lo {
+        return 15;
+    }
+    if hi < word::power_of_two(s) as i32 {
+        return 15;
+    }
+    0
+}
+
+// 15 for a formula that is not of the kind odd, or for its interval.
+fn sine_fault(b: &[u8], s: u32) -> u8
+    requires { ⌜ Scale s × FormulaBytes s (now b) ⌝ }
+    ensures { λ r. ⌜ r ≡ sineFault s (formulaIn (now (b .entry))) ⌝ }
+{
+    let row = table::row_of(layout::code(b));
+    let kind = row.kind;
+    let f = odd_fault(kind);
+    if f != 0 {
+        return f;
+    }
+    span_fault(layout::lo(b), layout::hi(b), s)
+}
+
+fn negated(e: Evaluation) -> Evaluation
+    requires { ⌜ Word (evaluationWord e) ⌝ }
+    ensures { λ r. ⌜ r ≡ negated e ⌝ }
+{
+    match e {
+        Evaluation::Answered(w) => Evaluation::Answered(Worked { word: -w.word }),
+        Evaluation::Refused(r) => Evaluation::Refused(r),
+    }
+}
+
+// 15, or the formula's answer at the angle's argument, negated in quarters 2 and 3.
+fn sine_of(b: &[u8], angle: u32, s: u32) -> Evaluation
+    requires { ⌜ Scale s × FormulaBytes s (now b) ⌝ }
+    ensures { λ r. ⌜ r ≡ sineBy s (formulaIn (now (b .entry))) (quarterOf angle) (answerAt s (formulaIn (now (b .entry))) (argumentOf s angle)) ⌝ }
+{
+    let f = sine_fault(b, s);
+    if f != 0 {
+        return answering::refused(f);
+    }
+    let e = answering::answer_of(b, angle::argument(angle, s), s);
+    if angle::quarter(angle) < 2 {
+        e
+    } else {
+        negated(e)
+    }
+}
+
+pub fn sine(s: &[u8], number: u16, angle: u32, places: u32) -> Evaluation
+    ensures { λ r. ⌜ r ≡ sineOf places (now (s .entry)) number angle ⌝ }
+{
+    match reader::formula_place(s, number, places) {
+        Place::At(place) => sine_of(layout::record_at(s, place), angle, places),
+        Place::Refused(r) => Evaluation::Refused(r),
+    }
+}
+
+// The sine of the angle plus a quarter, which wraps.
+pub fn cosine(s: &[u8], number: u16, angle: u32, places: u32) -> Evaluation
+    ensures { λ r. ⌜ r ≡ cosineOf places (now (s .entry)) number angle ⌝ }
+{
+    sine(
+        s,
+        number,
+        std::num::wrapping_add_u32(angle, angle::QUARTER),
+        places,
+    )
+}
