@@ -1,5 +1,4 @@
--- No fault for sine and cosine says that the formula's kind is odd and its interval holds 0 to one, and the only other fault is 15: by cases on the kind and
--- on the two tests.
+-- There is no fault for sine and cosine exactly where the formula is for them, and the only fault is 15: by cases on the kind and on the two tests.
 use Rattle.whole.proofs.Basics.{_≡_, refl, sym, subst, Bool, true, false, cond, not, _⊎_, inl, inr, ℕ, arith, T, ℤ, pos, _≤ℤ_, ltZ}
 use lib.Signed.{ltZ-yes, ltZ-no, clashℤ}
 use Rattle.word.specs.Words.{unit}
@@ -7,7 +6,7 @@ use Rattle.formula.specs.declared.Formula.{Formula}
 use Rattle.formula.specs.declared.Kind.{Kind}
 use Rattle.formula.specs.declared.Kind.the-variants.{Polynomial, Rational, Fraction, Root, Odd, Even, NoFormula}
 use Rattle.faults.proofs.Chain.{passed, neither}
-use Rattle.turn.specs.Sine.{oddFault, spanFault, sineFault}
+use Rattle.turn.specs.Sine.{oddFault, spanFault, sineFault, ForSine}
 
 odd-or-not : (k : Kind) → (k ≡ Odd) ⊎ (oddFault k ≡ 15)
 odd-or-not Polynomial = inr refl
@@ -47,14 +46,14 @@ module _ (s : ℕ) (f : Formula) where
       at (inl o) = rw o (tests (ltZ (pos 0) (f .lo)) (ltZ (f .hi) (pos (unit s))))
       at (inr z) = inr (rw z)
 
-  pub sine-needs : sineFault s f ≡ 0 → (f .shape .kind ≡ Odd) × (f .lo ≤ℤ pos 0) × (pos (unit s) ≤ℤ f .hi)
+  pub sine-needs : sineFault s f ≡ 0 → ForSine s f
   unfolding spanFault
   sine-needs e =
       let k = neither (oddFault (f .shape .kind)) _ e in
       let l = passed (ltZ (pos 0) (f .lo)) 15 _ (λ q. omega arith) (k .1) in
       let h = passed (ltZ (f .hi) (pos (unit s))) 15 0 (λ q. omega arith) (l .1) in
-      (is-odd _ (k .0) (odd-or-not (f .shape .kind)), not-below (pos 0) (f .lo) (l .0), not-below (f .hi) (pos (unit s)) (h .0))
+      record { odd = is-odd _ (k .0) (odd-or-not (f .shape .kind)); low = not-below (pos 0) (f .lo) (l .0); high = not-below (f .hi) (pos (unit s)) (h .0) }
 
-  pub sine-enough : (f .shape .kind ≡ Odd) × (f .lo ≤ℤ pos 0) × (pos (unit s) ≤ℤ f .hi) → sineFault s f ≡ 0
+  pub sine-enough : ForSine s f → sineFault s f ≡ 0
   unfolding spanFault
-  sine-enough (o, l, h) = rw (o, at-least (pos 0) (f .lo) l, at-least (f .hi) (pos (unit s)) h)
+  sine-enough k = rw (k .odd, at-least (pos 0) (f .lo) (k .low), at-least (f .hi) (pos (unit s)) (k .high))

@@ -1,10 +1,10 @@
 -- Promise: half a turn more negates sine and cosine, half a turn minus an angle has the same sine, and the negated angle the negated sine and the same cosine,
--- on every sheet, refusals too; sine of 0 is 0, and sine of a quarter turn is the board's answer at one. Quarters 2 and 3 have the arguments of 0 and 1 and
+-- on every sheet, refusals too; sine of 0 is 0, and sine of a quarter turn, which is cosine of 0, the board's answer at one. Quarters 2 and 3 have the arguments of 0 and 1 and
 -- the other sign; half a turn minus an angle folds to the same argument, but for 0 and half a turn, where an odd formula's answer is its own negation.
 use Rattle.whole.proofs.Basics.{_≡_, _∙_, refl, sym, ap, ap₂, Bool, true, false, cond, _⊎_, inl, inr, List, ℕ, _+_, _-_, _%_, _^_, _≤_, arith, eqb, ℤ, pos, negℤ}
 use native.Mathlib.Decide.{decLe}
 use lib.IntN.{negℤ-negℤ}
-use lib.Pow.{pow-add, pow-pos}
+use lib.Pow.{pow-pos}
 use Rattle.whole.proofs.Diff.{v, ⊖_}
 use Rattle.whole.proofs.Linear.{zarith}
 use Rattle.whole.proofs.Order.{≤ℤ-trans, pos-le}
@@ -20,12 +20,14 @@ use Rattle.answering.specs.Answering.{evaluationWord, refused, answered}
 use Rattle.answering.specs.declared.answers.Evaluation.{Evaluation}
 use Rattle.answering.specs.declared.answers.Evaluation.the-variants.{Answered, Refused}
 use Rattle.board.specs.Board.{whenGiven, evaluated}
-use Rattle.board.proofs.AnswersInside.{formulaGiven, by-formula}
+use Rattle.board.proofs.AnswersInside.{formulaGiven}
 use Rattle.board.proofs.BothSides.{sheet-negated}
 use Rattle.turn.specs.Angles.{halfTurn, quarterTurn, Angle, angleSum, angleDifference, quarterOf, restOf, argumentIn}
-use Rattle.turn.specs.Sine.{sineFault, HasSine, negated, signedIn, sineIn, sineOf, cosineOf}
+use Rattle.turn.specs.Sine.{sineFault, HasSine, negated, sineIn, sineOf, cosineOf}
 use Rattle.turn.proofs.AngleLaws.{by-quarter, sum-angle, difference-angle, half-more-parts, half-minus-start, half-minus-inside, negated-angle, negated-quarter, half-quarter}
+use Rattle.turn.proofs.ArgumentLaws.{quarter-is}
 use Rattle.turn.proofs.FaultLaws.{or-fifteen, sine-needs}
+use Rattle.turn.proofs.EveryAngle.{sine-given}
 
 -- ---- negation: twice is none, only 0 is its own, and it goes past refusals, both ways
 negated-back : (e : Evaluation) → negated (negated e) ≡ e
@@ -57,31 +59,29 @@ module _ (s : ℕ) (bytes : List ℕ) (n : ℕ) where
   abbrev plain : ℕ → ℕ → Evaluation
   plain quarter f = evaluated s bytes n (argumentIn s quarter f)
 
-  -- ---- a sheet that has the sine: no refusal but the board's own
+  -- ---- a sheet that has the sine
   module _ (has : HasSine s bytes n) where
-    pub sine-given : (quarter f : ℕ) → sineIn s bytes n quarter f ≡ signedIn quarter (plain quarter f)
-    sine-given quarter f = by-formula s bytes n (has .0) _ ∙ ap (λ (t : ℕ). guard t refused (signedIn quarter (plain quarter f))) (has .1)
-
     zero-answer : evaluated s bytes n (pos 0) ≡ answered (pos 0)
     zero-answer =
-        let k = sine-needs s (formulaGiven s bytes n) (has .1) in
-        let h = ≤ℤ-trans (pos-le {a = 0} {b = unit s} (omega arith)) (k .2) in
-        let e = sheet-negated s bytes n (has .0) (pos 0) (k .1) h (k .1) h (rw (k .0) tt) in
+        let k = has .1 in
+        let h = ≤ℤ-trans (pos-le {a = 0} {b = unit s} (omega arith)) (k .high) in
+        let e = sheet-negated s bytes n (has .0) (pos 0) (k .low) h (k .low) h (rw (k .odd) tt) in
         let w = ap evaluationWord e in
         e ∙ ap answered (sym w ∙ own-negation _ w)
 
     pub sine-of-zero : sineOf s bytes n 0 ≡ answered (pos 0)
-    sine-of-zero = sine-given 0 0 ∙ ap (evaluated s bytes n) (own-negation _ (rounded-odd (pos 0) (2 ^ (30 - s)))) ∙ zero-answer
+    sine-of-zero = sine-given s bytes n has 0 0 ∙ ap (evaluated s bytes n) (own-negation _ (rounded-odd (pos 0) (2 ^ (30 - s)))) ∙ zero-answer
 
-    -- 2^30 is 2^s times 2^(30 - s)
-    one-argument : s ≤ 30 → argumentIn s 1 0 ≡ pos (unit s)
-    one-argument h =
-        let e : s + (30 - s) ≡ 30 = omega arith in
-        ap (λ (k : ℕ). rounded (pos k) (2 ^ (30 - s))) (ap (λ (k : ℕ). 2 ^ k) (sym e) ∙ pow-add 2 s (30 - s))
+    one-argument : argumentIn s 1 0 ≡ pos (unit s)
+    one-argument =
+        ap (λ (k : ℕ). rounded (pos k) (2 ^ (30 - s))) (sym (quarter-is s (given-scale s bytes n (has .0))))
         ∙ rounded-exact (pos (unit s)) (2 ^ (30 - s)) (pow-pos (30 - s))
 
     pub sine-of-quarter : sineOf s bytes n quarterTurn ≡ evaluated s bytes n (pos (unit s))
-    sine-of-quarter = sine-given 1 0 ∙ ap (evaluated s bytes n) (one-argument (omega (arith, given-scale s bytes n (has .0) .most)))
+    sine-of-quarter = sine-given s bytes n has 1 0 ∙ ap (evaluated s bytes n) one-argument
+
+    pub cosine-of-zero : cosineOf s bytes n 0 ≡ evaluated s bytes n (pos (unit s))
+    cosine-of-zero = sine-of-quarter
 
   -- ---- half a turn more
   pub half-more : (a : ℕ) → Angle a → sineOf s bytes n (angleSum a halfTurn) ≡ negated (sineOf s bytes n a)
@@ -98,7 +98,7 @@ module _ (s : ℕ) (bytes : List ℕ) (n : ℕ) where
     where
       at : (a : Found) → found ≡ a → (fault ≡ 0) ⊎ (fault ≡ 15) → sineOf s bytes n halfTurn ≡ sineOf s bytes n 0
       at (Withheld r) e k = rw e
-      at Given e (inl z) = let q = sine-of-zero (ap foundNumber e, z) in half-more 0 (omega arith) ∙ ap negated q ∙ sym q
+      at Given e (inl z) = let q = sine-of-zero (ap foundNumber e, sine-needs s (formulaGiven s bytes n) z) in half-more 0 (omega arith) ∙ ap negated q ∙ sym q
       at Given e (inr z) = rw (e, z)
 
   pub half-minus : (a : ℕ) → Angle a → sineOf s bytes n (angleDifference halfTurn a) ≡ sineOf s bytes n a

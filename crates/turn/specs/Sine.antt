@@ -5,12 +5,12 @@ use mathlib.Core.List.{List, [], _∷_}
 use Prim.Native.Nat.{ℕ}
 use lib.Dec.{ltb}
 use lib.IntN.{ℤ, pos, negsuc, negℤ}
-use lib.Signed.{ltZ}
+use lib.Signed.{_≤ℤ_, ltZ}
 use Rattle.word.specs.Words.{unit}
 use Rattle.formula.specs.declared.Kind.{Kind}
 use Rattle.formula.specs.declared.Kind.the-variants.{Polynomial, Rational, Fraction, Root, Odd, Even, NoFormula}
 use Rattle.formula.specs.declared.Formula.{Formula}
-use Rattle.layout.specs.Fields.{shape, padded, formula}
+use Rattle.layout.specs.Fields.{shape, formula}
 use Rattle.faults.specs.Guard.{refusal, guard, orElse}
 use Rattle.sheet.specs.Reader.{readerRefusals, formulaRead, HasFormula}
 use Rattle.answering.specs.Answering.{refused, answered}
@@ -40,9 +40,15 @@ spanFault s lo hi = cond (ltZ (pos 0) lo) 15 (cond (ltZ hi (pos (unit s))) 15 0)
 abbrev pub sineFault : ℕ → Formula → ℕ
 sineFault s f = orElse (oddFault (f .shape .kind)) (spanFault s (f .lo) (f .hi))
 
--- the sheet is accepted, has a formula of the number n, and that is one for sine and cosine
+-- a formula for sine and cosine: of the kind odd, and its interval holds 0 to one, both ends inside
+pub record ForSine (s : ℕ) (f : Formula) : Type 0 where
+  pub odd : f .shape .kind ≡ Odd
+  pub low : f .lo ≤ℤ pos 0
+  pub high : pos (unit s) ≤ℤ f .hi
+
+-- the sheet is accepted and has one of the number n
 abbrev pub HasSine : ℕ → List ℕ → ℕ → Type 0
-HasSine s bytes n = HasFormula s bytes n × (sineFault s (formulaRead s bytes n .formula) ≡ 0)
+HasSine s bytes n = HasFormula s bytes n × ForSine s (formulaRead s bytes n .formula)
 
 -- ---- negated in quarters 2 and 3
 abbrev pub negated : Evaluation → Evaluation
@@ -66,7 +72,7 @@ sineOf s bytes n a = sineIn s bytes n (quarterOf a) (restOf a)
 abbrev pub cosineOf : ℕ → List ℕ → ℕ → ℕ → Evaluation
 cosineOf s bytes n a = sineOf s bytes n (angleSum a quarterTurn)
 
--- ---- worked examples. 15 by the kind
+-- ---- worked examples. 15 by the kind; and by the interval, at both ends of 0 to one, at 24 places and at 16 and 28
 by-kind :
     (oddFault Polynomial ≡ 15)
     × (oddFault Rational ≡ 15)
@@ -76,3 +82,35 @@ by-kind :
     × (oddFault Even ≡ 15)
     × (oddFault NoFormula ≡ 15)
 by-kind = (refl, refl, refl, refl, refl, refl, refl)
+
+by-interval :
+    (spanFault 24 (pos 0) (pos 16777216) ≡ 0)
+    × (spanFault 24 (pos 1) (pos 16777216) ≡ 15)
+    × (spanFault 24 (pos 0) (pos 16777215) ≡ 15)
+    × (spanFault 24 (negsuc 0) (pos 16777217) ≡ 0)
+unfolding spanFault
+by-interval = (refl, refl, refl, refl)
+
+by-places : (spanFault 16 (pos 0) (pos 65536) ≡ 0) × (spanFault 16 (pos 0) (pos 65535) ≡ 15) × (spanFault 28 (pos 0) (pos 268435456) ≡ 0) × (spanFault 28 (pos 0) (pos 268435455) ≡ 15)
+unfolding spanFault
+by-places = (refl, refl, refl, refl)
+
+-- the sign in each quarter; a refusal has none
+signs :
+    (signedIn 0 (answered (pos 3)) ≡ answered (pos 3))
+    × (signedIn 1 (answered (pos 3)) ≡ answered (pos 3))
+    × (signedIn 2 (answered (pos 3)) ≡ answered (negsuc 2))
+    × (signedIn 3 (answered (pos 3)) ≡ answered (negsuc 2))
+    × (signedIn 3 (refused 11) ≡ refused 11)
+signs = (refl, refl, refl, refl, refl)
+
+-- 15 stands before the answer, at place 0: 0 to one, then from one step above 0; the kind even on an interval that would do
+abbrev over : Kind → ℤ → Formula
+over kind lo = formula 5 (shape kind 1 0 0) lo (pos 16777216) []
+
+fifteen-first :
+    (sineBy 24 (over Odd (pos 0)) 0 (answered (pos 3)) ≡ answered (pos 3))
+    × (sineBy 24 (over Odd (pos 1)) 0 (answered (pos 3)) ≡ Refused (refusal 0 15))
+    × (sineBy 24 (over Even (pos 0)) 2 (answered (pos 3)) ≡ Refused (refusal 0 15))
+unfolding spanFault
+fifteen-first = (refl, refl, refl)

@@ -7,7 +7,7 @@ ghost use Rattle.answering.specs.Answering.{evaluationWord, answerAt};
 ghost use Rattle.turn.specs.Angles.{quarterOf, argumentOf};
 ghost use Rattle.turn.specs.Sine.{oddFault, spanFault, sineFault, negated, sineBy, sineOf, cosineOf};
 
-pub mod angle;
+mod angle;
 
 use answering::answers::Evaluation;
 use answering::answers::Worked;

@@ -35,9 +35,9 @@ module _ (d : tie.Start) where
       let s = d .args .s in
       let a = d .args .angle in
       let k = sine-needs s f e in
-      let l = ≤ℤ-trans (k .1) (argument-low s (d .pre .0) (quarterOf a) (restOf a)) in
-      let h = ≤ℤ-trans (argument-high s (d .pre .0) (quarterOf a) (restOf a) (rest-most a)) (k .2) in
-      subst (λ (e : Evaluation). Word (evaluationWord e)) (inside s f x l h) (odd-word s f x (k .0) (answerable s f x l h (d .pre .0) (fit s (now (d .args .b)) (d .pre .1))))
+      let l = ≤ℤ-trans (k .low) (argument-low s (d .pre .0) (quarterOf a) (restOf a)) in
+      let h = ≤ℤ-trans (argument-high s (d .pre .0) (quarterOf a) (restOf a) (rest-most a)) (k .high) in
+      subst (λ (e : Evaluation). Word (evaluationWord e)) (inside s f x l h) (odd-word s f x (k .odd) (answerable s f x l h (d .pre .0) (fit s (now (d .args .b)) (d .pre .1))))
 
 returns : tie.Need-returns
 returns c = halts refused (signedIn (quarterOf (c .before .before .before .before .args .angle)) _) (c .before .before .sine-fault .ensures) (c .before .if1 .taken) (c .refused .ensures)

@@ -1,0 +1,85 @@
+-- Promise: by a sheet that has the sine every angle is answered: its argument lies in the interval, and the answer is the formula's own there, or the
+-- negation of that, and a word. Any other formula gives 15 to every angle. The reader's refusals come before both.
+use Rattle.whole.proofs.Basics.{_≡_, _∙_, refl, ap, Bool, true, false, cond, _⊎_, inl, inr, List, ℕ, arith, ltb, ℤ, negℤ, _≤ℤ_}
+use Rattle.whole.proofs.Order.{≤ℤ-trans, abs-neg}
+use Rattle.word.specs.Words.{Word}
+use Rattle.formula.specs.declared.Formula.{Formula}
+use Rattle.formula.specs.Formula.{answerOf}
+use Rattle.layout.specs.Fields.{wordsIn}
+use Rattle.faults.specs.declared.Refusal.{Refusal}
+use Rattle.faults.specs.Guard.{guard}
+use Rattle.sheet.specs.Reader.{formulaRead, HasFormula}
+use Rattle.sheet.specs.declared.answers.Found.{Found}
+use Rattle.sheet.specs.declared.answers.Found.the-variants.{Refused as Withheld}
+use Rattle.sheet.proofs.FormulasGiven.{given-scale, given-fits}
+use Rattle.answering.specs.Answering.{evaluationWord, refused, answered}
+use Rattle.answering.specs.declared.answers.Evaluation.{Evaluation}
+use Rattle.answering.specs.declared.answers.Evaluation.the-variants.{Refused}
+use Rattle.answering.proofs.IntervalLaws.{answerable}
+use Rattle.board.specs.Board.{whenGiven, evaluated}
+use Rattle.board.proofs.AnswersInside.{formulaGiven, by-formula, answers-inside, odd-word}
+use Rattle.turn.specs.Angles.{quarterOf, restOf, argumentIn, argumentOf}
+use Rattle.turn.specs.Sine.{sineFault, ForSine, HasSine, negated, signedIn, sineBy, sineIn, sineOf}
+use Rattle.turn.proofs.ArgumentLaws.{rest-most, argument-low, argument-high}
+use Rattle.turn.proofs.FaultLaws.{or-fifteen, sine-needs, sine-enough}
+
+-- a word with the sign of a quarter
+abbrev pub wordIn : ℕ → ℤ → ℤ
+wordIn quarter w = cond (ltb quarter 2) w (negℤ w)
+
+signed-word : (t : Bool) (w : ℤ) → Word w → Word (cond t w (negℤ w))
+signed-word true w h = h
+signed-word false w h = omega (arith, abs-neg w)
+
+module _ (s : ℕ) (bytes : List ℕ) (n : ℕ) where
+  abbrev f : Formula
+  f = formulaGiven s bytes n
+
+  -- the board's answer, before its sign
+  abbrev plain : ℕ → ℕ → Evaluation
+  plain quarter rest = evaluated s bytes n (argumentIn s quarter rest)
+
+  -- ---- the reader's refusals come first
+  pub reader-first : (a : ℕ) (r : Refusal) → formulaRead s bytes n .found ≡ Withheld r → sineOf s bytes n a ≡ Refused r
+  reader-first a r e = ap (λ (i : Found). whenGiven i (sineBy s f (quarterOf a) (plain (quarterOf a) (restOf a)))) e
+
+  -- ---- then 15, for every angle
+  pub fifteen : HasFormula s bytes n → (ForSine s f → ⊥) → (a : ℕ) → sineOf s bytes n a ≡ refused 15
+  fifteen given other a = by-formula s bytes n given _ ∙ at (or-fifteen s f)
+    where
+      at : (sineFault s f ≡ 0) ⊎ (sineFault s f ≡ 15) → sineBy s f (quarterOf a) (plain (quarterOf a) (restOf a)) ≡ refused 15
+      at (inl z) = absurd (other (sine-needs s f z))
+      at (inr z) = ap (λ (t : ℕ). guard t refused (signedIn (quarterOf a) (plain (quarterOf a) (restOf a)))) z
+
+  -- ---- a sheet that has the sine
+  module _ (has : HasSine s bytes n) where
+    pub sine-given : (quarter rest : ℕ) → sineIn s bytes n quarter rest ≡ signedIn quarter (plain quarter rest)
+    sine-given quarter rest = by-formula s bytes n (has .0) _ ∙ ap (λ (t : ℕ). guard t refused (signedIn quarter (plain quarter rest))) (sine-enough s f (has .1))
+
+    module _ (a : ℕ) where
+      abbrev x : ℤ
+      x = argumentOf s a
+
+      abbrev own : ℤ
+      own = answerOf s (f .shape) (wordsIn f) x
+
+      pub argument-above : f .lo ≤ℤ x
+      argument-above = ≤ℤ-trans (has .1 .low) (argument-low s (given-scale s bytes n (has .0)) (quarterOf a) (restOf a))
+
+      pub argument-below : x ≤ℤ f .hi
+      argument-below = ≤ℤ-trans (argument-high s (given-scale s bytes n (has .0)) (quarterOf a) (restOf a) (rest-most a)) (has .1 .high)
+
+      pub every-angle : sineOf s bytes n a ≡ answered (wordIn (quarterOf a) own)
+      every-angle =
+          sine-given (quarterOf a) (restOf a)
+          ∙ ap (signedIn (quarterOf a)) (answers-inside s bytes n (has .0) x argument-above argument-below)
+          ∙ at (ltb (quarterOf a) 2)
+        where
+          at : (t : Bool) → cond t (answered own) (negated (answered own)) ≡ answered (cond t own (negℤ own))
+          at true = refl
+          at false = refl
+
+      pub sine-word : Word (evaluationWord (sineOf s bytes n a))
+      sine-word =
+          let k = answerable s f x argument-above argument-below (given-scale s bytes n (has .0)) (given-fits s bytes n (has .0) .0) in
+          rw every-angle (signed-word (ltb (quarterOf a) 2) own (odd-word s f x (has .1 .odd) k))
