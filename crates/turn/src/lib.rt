@@ -97,10 +97,6 @@ pub fn sine(s: &[u8], number: u16, angle: u32, places: u32) -> Evaluation
 pub fn cosine(s: &[u8], number: u16, angle: u32, places: u32) -> Evaluation
     ensures { λ r. ⌜ r ≡ cosineOf places (now (s .entry)) number angle ⌝ }
 {
-    sine(
-        s,
-        number,
-        std::num::wrapping_add_u32(angle, angle::QUARTER),
-        places,
-    )
+    let later = std::num::wrapping_add_u32(angle, angle::QUARTER);
+    sine(s, number, later, places)
 }

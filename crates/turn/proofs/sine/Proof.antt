@@ -1,7 +1,7 @@
 -- `turn::sine` meets its contract: the sine by the record that stands at the place, or the place's refusal.
 use Rattle.whole.proofs.Basics.{_≡_, _∙_, refl, sym, List, ℕ, now, needs}
 use Rattle.formula.specs.declared.Formula.{Formula}
-use Rattle.sheet.specs.Reader.{formulaPlace, formulaRead, FormulaStands}
+use Rattle.sheet.specs.Reader.{formulaPlace, formulaAt, formulaRead, FormulaStands}
 use Rattle.sheet.specs.declared.answers.Found.{Found}
 use Rattle.sheet.specs.declared.answers.Found.the-variants.{Given, Refused as Withheld}
 use Rattle.sheet.specs.declared.answers.Place.the-variants.{At}
@@ -52,7 +52,8 @@ returns : tie.Need-returns
 returns c =
     let k = c .before .before in
     let d = start k in
-    rw (c .before .record-at .ensures) at (c .sine-of .ensures) ∙ when-at (d .args .places) (bytes d) (d .args .number) (answer d) _ (found k) ∙ as-board d
+    let here : c .sine-of .result ≡ answer d (formulaAt (bytes d) (k .before .place .given .0 .0)) = rw (c .before .record-at .ensures) at (c .sine-of .ensures) in
+    here ∙ when-at (d .args .places) (bytes d) (d .args .number) (answer d) _ (found k) ∙ as-board d
 
 returns-2 : tie.Need-returns-2
 returns-2 c =
