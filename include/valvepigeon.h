@@ -3,6 +3,9 @@
    Numbers. A word is a whole number from -2147483647 to 2147483647, and stands for itself divided by 2^24; 16777216 is one.
    The pattern -2147483648 is no word.
 
+   Angles. An angle is an unsigned number of 32 bits, a part of a turn: a turn has 2^32 parts, so 0x40000000 is a quarter, and
+   sums of angles wrap as C's unsigned sums do.
+
    Sheets. A sheet is a run of bytes: one start record, 1 to 64 formula records with strictly rising numbers, and one end
    record. Every function takes any bytes, of any length, any numbers and any arguments: it ends with an answer or with a
    numbered refusal, and nothing has to be checked before the call. No function keeps anything, allocates, or reads or writes
@@ -13,8 +16,8 @@
 
    Answers. Each result begins with `refused`, 0 or the number of the refusal, and `place`. When refused, every field after
    these two is 0 (a double is plus zero) and no byte of a lent buffer has changed; when not, `refused` and `place` are 0.
-   Refusals 1 to 8 give the first byte of their record as the place, 9 the first byte too many; 10 to 13 give 0. The record
-   writer gives place 0 always. In the sheet writer places count from the new sheet's first byte, so the run begins at 8. */
+   Refusals 1 to 8 give the first byte of their record as the place, 9 the first byte too many, the others 0. The record writer
+   gives place 0 always. In the sheet writer places count from the new sheet's first byte, so the run begins at 8. */
 #ifndef VALVEPIGEON_H
 #define VALVEPIGEON_H
 
@@ -28,8 +31,8 @@ extern "C" {
 /* The version: 10000 times the first number, 100 times the second, and the third. The first moves when programs have to be
    compiled anew (a struct or a function is not as it was), and the shared library's name moves with it; the second when something
    is added, as a kind or a refusal, or an answer changes; the third when nothing of this is so. */
-#define VP_VERSION 10200
-#define VP_VERSION_STRING "1.2.0"
+#define VP_VERSION 10300
+#define VP_VERSION_STRING "1.3.0"
 
 /* Sizes: the most bytes of a record, the bytes that a sheet adds to its run of records, and the most formulas of a sheet. */
 #define VP_LONGEST_RECORD 120
@@ -53,6 +56,7 @@ extern "C" {
 #define VP_NO_SUCH_FORMULA 11     /* no formula has that number */
 #define VP_BUFFER_TOO_SHORT 12    /* the output buffer is too short */
 #define VP_NOT_FINITE 13          /* the double is infinite or not a number */
+#define VP_NO_SINE 15             /* the formula is not of the kind odd, or its interval does not hold 0 to one */
 
 /* The kinds of formula records, as `kind` has them. */
 #define VP_POLYNOMIAL 0x0010
@@ -138,6 +142,17 @@ vp_worked vp_evaluate(const uint8_t *sheet, size_t length, uint16_t number, int3
 /* The same for a double. The argument's exact value times 2^24 is rounded as a product is; where the rounded value is no word
    or lies outside the interval, 10. Refusals 1 to 9, then 11, 13, 10. */
 vp_shown vp_evaluate_double(const uint8_t *sheet, size_t length, uint16_t number, double argument);
+
+/* The sine of an angle, by the sheet's formula of that number, which has to be of the kind odd and to hold 0 to one in its
+   interval: one for sin(pi x/2), as sheets/sine-quarter.sheet has. In the first quarter of a turn it answers at the angle divided
+   by 2^6, rounded as a product is, so that a quarter is one; in the second as at half a turn minus the angle; in the third and the
+   fourth the answer is that at half a turn less, negated. So for every angle, exactly: half a turn more negates the sine, half a
+   turn minus the angle keeps it, and the negated angle negates it. Refusals 1 to 9, then 11, 15; no angle is refused. */
+vp_worked vp_sine(const uint8_t *sheet, size_t length, uint16_t number, uint32_t angle);
+
+/* The cosine of an angle: the sine of the angle and a quarter more. So, exactly, the negated angle keeps it, and half a turn more
+   negates it. Refusals as above. */
+vp_worked vp_cosine(const uint8_t *sheet, size_t length, uint16_t number, uint32_t angle);
 
 /* The interval of the sheet's formula of that number. Refusals 1 to 9, then 11. */
 vp_ends vp_interval(const uint8_t *sheet, size_t length, uint16_t number);

@@ -36,6 +36,8 @@ static const char *const messages[] = {
                             "Lend more: a record takes at most 120 bytes, a sheet 16 more than its run.",
     [VP_NOT_FINITE] = "the double is infinite or not a number. "
                       "Look where it comes from.",
+    [VP_NO_SINE] = "the formula is not of the kind odd, or its interval does not hold 0 to one. "
+                   "Ask an odd formula whose interval holds the words 0 to 16777216; a listing of the sheet shows both.",
 };
 
 const char *vp_message(uint32_t refused) {
