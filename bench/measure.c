@@ -37,6 +37,7 @@ static formula formulas[KINDS] = {
     [ODD] = {"odd", VP_ODD, 14}, [EVEN] = {"even", VP_EVEN, 33},
 };
 static formula padded = {"polynomial, odd padded", VP_POLYNOMIAL, 14};     /* the odd one, with a nought before each coefficient */
+static uint32_t angles[SLICE];             /* of all four quarters */
 static uint8_t out[ROOM], kept[ROOM];      /* what a call writes to; what it was after plain C's */
 
 static void stop(const char *name, const char *why) {
@@ -127,7 +128,8 @@ static const char *joined(const char *first, const char *second) {
 #define ALONE(f) f->alone.bytes, f->alone.length, f->number
 
 static void rows(int timing) {
-    const formula *polynomial = &formulas[POLYNOMIAL], *fraction = &formulas[FRACTION], *f, *end = formulas + KINDS;
+    const formula *polynomial = &formulas[POLYNOMIAL], *fraction = &formulas[FRACTION], *odd = &formulas[ODD];
+    const formula *f, *end = formulas + KINDS;
     ROW("reading 64 formulas", counted, count, WHOLE);
     ROW("writing 64 formulas", written, write_sheet, RUN, out, ROOM);
     for (f = formulas; f < end; f++) ROW(joined(f->name, ", sheet of 1"), worked, evaluate, ALONE(f), f->arguments[i]);
@@ -135,6 +137,8 @@ static void rows(int timing) {
     ROW(f->name, worked, evaluate, ALONE(f), f->arguments[i]);
     for (f = formulas; f < end; f++) ROW(joined(f->name, ", sheet of 64"), worked, evaluate, WHOLE, f->number, f->arguments[i]);
     ROW("double, polynomial", shown, evaluate_double, ALONE(polynomial), polynomial->doubles[i]);
+    ROW("sine, sheet of 1", worked, sine, ALONE(odd), angles[i]);
+    ROW("cosine, sheet of 1", worked, cosine, ALONE(odd), angles[i]);
     ROW("interval, polynomial", ends, interval, ALONE(polynomial));
     ROW("formula, polynomial", found, formula, ALONE(polynomial));
     ROW("formula, fraction", found, formula, ALONE(fraction));
@@ -165,6 +169,10 @@ static void refusals(void) {
     REFUSED(VP_ARGUMENT_OUTSIDE, worked, evaluate, WHOLE, f->number, f->fields.hi + 1);
     REFUSED(VP_ARGUMENT_OUTSIDE, shown, evaluate_double, WHOLE, f->number, 1e300);
     REFUSED(VP_NOT_FINITE, shown, evaluate_double, WHOLE, f->number, __builtin_inf());
+    REFUSED(VP_CUT_SHORT, worked, sine, WHOLE - 1, f->number, 0);
+    REFUSED(VP_NO_SUCH_FORMULA, worked, sine, WHOLE, 0, 0);
+    for (; f < formulas + KINDS; f++) if (f->kind != VP_ODD) REFUSED(VP_NO_SINE, worked, sine, WHOLE, f->number, 0);
+    f = formulas;
     REFUSED(VP_WRONG_KIND, written, write_record, ((vp_fields){0}), out, ROOM);
     REFUSED(VP_RANGE_LEFT, written, write_record, ((vp_fields){VP_EVEN, 1, 0, 2147483647, 1, 0, 0, {1}}), out, ROOM);
     REFUSED(VP_RANGE_LEFT, written, write_record, ((vp_fields){VP_ODD, 1, 0, 16777217, 1, 0, 0, {2147483647}}), out, ROOM);
@@ -220,6 +228,22 @@ static void ties(void) {
     }
 }
 
+/* Angles beside each eighth of a turn, the ties there among them, of an odd formula whose interval holds 0 to one, or just does not. */
+static void turns(void) {
+    static formula turn = {"angles", VP_ODD, 1, {VP_ODD, 1, 0, 0, 2, 0, 0, {26353589, -10837489}}};
+    const formula *f = &turn;
+    for (int narrower = 0; narrower < 4; narrower++) {
+        turn.fields.lo = narrower % 2, turn.fields.hi = 16777216 - narrower / 2;
+        prepare(&turn);
+        for (uint32_t i = 0; i < 8 * 64; i++) {
+            uint32_t angle = (i / 64 << 29) + i % 64 - 32;
+            vp_worked plain[2] = {plain_sine(ALONE(f), angle), plain_cosine(ALONE(f), angle)};
+            vp_worked ours[2] = {vp_sine(ALONE(f), angle), vp_cosine(ALONE(f), angle)};
+            for (int k = 0; k < 2; k++) judge(f->name, same_worked(&plain[k], &ours[k]), ours[k].refused, narrower ? VP_NO_SINE : 0);
+        }
+    }
+}
+
 int main(int count, char **words) {
     FILE *file = count > 1 ? fopen(words[1], "rb") : NULL;
     if (!file) stop("measure", "no sheet that can be read");
@@ -230,6 +254,8 @@ int main(int count, char **words) {
     prepare(&padded);
     refusals();
     ties();
+    for (int i = 0; i < SLICE; i++) angles[i] = (uint32_t)drawn();
+    turns();
     if (count == 2) rows(0);
     else while (pass++ < PASSES) row = 0, rows(1);
     return 0;

@@ -4,6 +4,7 @@
 #include "plain.h"
 
 #define MOST 2147483647u               /* the largest word */
+#define QUARTER 0x40000000u            /* of a turn */
 enum { PLACES = 24, ONE = 1 << PLACES, START = 1, END = 0xFFFF };
 typedef long long wide;
 
@@ -177,6 +178,7 @@ static inline int32_t horner(const uint8_t *c, uint32_t n, int32_t x) {
 
 static inline int32_t polynomial(const uint8_t *r, int32_t x) { return horner(r + 16, (u32(r) - 16) / 4, x); }
 static inline int32_t even(const uint8_t *r, int32_t x) { return polynomial(r, (int32_t)product(x, x)); }
+static inline int32_t odd(const uint8_t *r, int32_t x) { return (int32_t)product(even(r, x), x); }
 
 static inline int32_t rational(const uint8_t *r, int32_t x) {
     uint32_t p = u16(r + 16), q = u16(r + 18);
@@ -207,7 +209,7 @@ static inline int32_t answer(const uint8_t *r, int32_t x) {
     case VP_POLYNOMIAL: return polynomial(r, x);
     case VP_RATIONAL: return rational(r, x);
     case VP_FRACTION: return fraction(r, x);
-    case VP_ODD: return (int32_t)product(even(r, x), x);
+    case VP_ODD: return odd(r, x);
     case VP_EVEN: return even(r, x);
     default: return heron(x);
     }
@@ -250,6 +252,27 @@ vp_shown plain_evaluate_double(const uint8_t *sheet, size_t length, uint16_t num
     int32_t x = (int32_t)z;
     if (x < i32(r + 8) || x > i32(r + 12)) return (vp_shown){VP_ARGUMENT_OUTSIDE, 0, 0};
     return (vp_shown){0, 0, answer(r, x) / (double)ONE};
+}
+
+/* Of the angle's bits the highest is the sign, the next says whether the quarter is run through backwards. */
+static vp_worked sine(const uint8_t *sheet, size_t length, uint16_t number, uint32_t angle) {
+    const uint8_t *r = 0;
+    verdict v = check_sheet(sheet, length, number, &r);
+    if (v.refused) return (vp_worked){v.refused, v.place, 0};
+    if (!r) return (vp_worked){VP_NO_SUCH_FORMULA, 0, 0};
+    if (u16(r + 4) != VP_ODD || i32(r + 8) > 0 || i32(r + 12) < ONE) return (vp_worked){VP_NO_SINE, 0, 0};
+    uint32_t f = angle & (QUARTER - 1);
+    if (angle & QUARTER) f = QUARTER - f;
+    int32_t y = odd(r, (int32_t)((f + 32) >> 6));
+    return (vp_worked){0, 0, angle >> 31 ? -y : y};
+}
+
+vp_worked plain_sine(const uint8_t *sheet, size_t length, uint16_t number, uint32_t angle) {
+    return sine(sheet, length, number, angle);
+}
+
+vp_worked plain_cosine(const uint8_t *sheet, size_t length, uint16_t number, uint32_t angle) {
+    return sine(sheet, length, number, angle + QUARTER);
 }
 
 vp_ends plain_interval(const uint8_t *sheet, size_t length, uint16_t number) {

@@ -45,7 +45,7 @@ def bound(what, compiler, name):
         return {"clang": 1.00, "gcc": 1.05}[compiler]
     if compiler == "clang" and name in ALONE:
         return 1.05
-    if name.startswith(("odd", "even")):
+    if name.startswith(("odd", "even", "sine", "cosine")):
         return 1.10
     return {"clang": 1.15, "gcc": None}[compiler]
 
