@@ -1,43 +1,20 @@
-/* Words as decimals, and decimals as words. A step is 2^-24; half a step has 25 decimal places, so that the first 25 places of a
-   decimal settle how it is rounded. */
+/* Words as decimals, and decimals as words. */
 #include <string.h>
 #include "decimal.h"
+#include "typed.h"
 
-enum { BINARY_PLACES = 24, DECIMAL_PLACES = 25, MOST_WORD = 2147483647, ONE = 1 << BINARY_PLACES };
+enum { BINARY_PLACES = 24, MOST_WORD = 2147483647, ONE = 1 << BINARY_PLACES };
 
-/* Doubles the number below one that has these decimal places, and gives the one that passes the point, or 0. */
-static uint64_t doubled(unsigned char places[DECIMAL_PLACES]) {
-    unsigned carry = 0;
-    for (int i = DECIMAL_PLACES; i-- > 0;) {
-        unsigned twice = 2 * places[i] + carry;
-        carry = twice >= 10;
-        places[i] = (unsigned char)(twice % 10);
-    }
-    return carry;
-}
-
-/* The digits at the start of a text. A number above every word stays above every word, and no more is said of it. */
-static const char *whole_number(const char *text, uint64_t *number) {
-    for (*number = 0; *text >= '0' && *text <= '9'; text++)
-        if (*number <= MOST_WORD) *number = 10 * *number + (uint64_t)(*text - '0');
-    return text;
-}
-
-/* The point at the start of a text and the digits behind it, or nothing. */
-static const char *decimal_places(const char *text, unsigned char places[DECIMAL_PLACES]) {
-    memset(places, 0, DECIMAL_PLACES);
-    if (*text != '.') return text;
-    text++;
-    for (int i = 0; *text >= '0' && *text <= '9'; text++, i++)
-        if (i < DECIMAL_PLACES) places[i] = (unsigned char)(*text - '0');
-    return text;
+/* The whole part. One above every word stays above every word, and no more is said of it. */
+static uint64_t whole_part(const typed *number) {
+    uint64_t whole = 0;
+    for (size_t i = 0; i < number->whole_count && whole <= MOST_WORD; i++) whole = 10 * whole + (uint64_t)(number->whole[i] - '0');
+    return whole;
 }
 
 /* The nearest whole number of steps, without the sign; so a tie goes up. */
-static uint64_t steps(uint64_t whole, unsigned char places[DECIMAL_PLACES]) {
-    uint64_t count = whole;
-    for (int i = 0; i < BINARY_PLACES; i++) count = 2 * count + doubled(places);
-    return count + doubled(places);
+static uint64_t steps(typed *number) {
+    return (multiples(whole_part(number), number->places, BINARY_PLACES + 1) + 1) / 2;
 }
 
 static int32_t word_of(uint64_t count, int negative) {
@@ -46,19 +23,12 @@ static int32_t word_of(uint64_t count, int negative) {
 }
 
 int word_from(const char *text, int32_t *word) {
-    int negative = *text == '-';
-    if (*text == '-' || *text == '+') text++;
-    uint64_t whole;
-    const char *point = whole_number(text, &whole);
-    if (point > text && strcmp(point, "w") == 0) {
-        *word = word_of(whole, negative);
-        return 1;
-    }
-    unsigned char places[DECIMAL_PLACES];
-    const char *end = decimal_places(point, places);
-    int digits = (int)(end - text) - (*point == '.');
-    if (*end || digits == 0) return 0;
-    *word = word_of(steps(whole, places), negative);
+    typed number;
+    const char *end = typed_from(text, &number);
+    if (!end) return 0;
+    int in_steps = !number.has_point && strcmp(end, "w") == 0;
+    if (*end && !in_steps) return 0;
+    *word = word_of(in_steps ? whole_part(&number) : steps(&number), number.negative);
     return 1;
 }
 

@@ -1,7 +1,8 @@
-/* The program behind the command's verbs `check` and `ask`, and behind what `list` says of a sheet that is not listed.
+/* The program behind the command's verbs but `list`, and behind what `list` says of a sheet that is not listed.
 
        verbs check                        the names of the files come by descriptor 3, each ended by a nought byte
        verbs ask [--words] FILE NUMBER ARGUMENT...
+       verbs sine|cosine [--words] FILE NUMBER ANGLE...
        verbs explain FILE LISTING...      the words of the listing program's line, 'refused 2 at 24' or 'too long' */
 #define _POSIX_C_SOURCE 200809L
 #include <stdlib.h>
@@ -18,6 +19,8 @@ static int explain(int count, char **words) {
 
 static int verb(int count, char **words) {
     if (count > 0 && strcmp(words[0], "ask") == 0) return ask(count - 1, words + 1);
+    if (count > 0 && strcmp(words[0], "sine") == 0) return sine(count - 1, words + 1);
+    if (count > 0 && strcmp(words[0], "cosine") == 0) return cosine(count - 1, words + 1);
     if (count > 1 && strcmp(words[0], "explain") == 0) return explain(count - 1, words + 1);
     FILE *names = fdopen(3, "r");
     return names ? check(names) : 2;

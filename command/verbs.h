@@ -7,6 +7,8 @@
 /* `check` of the files whose names a file has, each ended by a nought byte. */
 int check(FILE *names);
 
-/* `ask` of the words behind the verb. */
+/* Each of the words behind the verb. */
 int ask(int count, char **words);
+int sine(int count, char **words);
+int cosine(int count, char **words);
 #endif

@@ -138,4 +138,5 @@ def main():
         (folder / f"{name}.out").write_text("\n".join(lines) + "\n")
 
 
-main()
+if __name__ == "__main__":
+    main()

@@ -112,6 +112,26 @@ for bad in 65536 -1 one 1.0 '' 100000; do gives 2 '' 'number' ask good.sheet "$b
 gives 2 '' 'is no option' ask good.sheet 1 --loud
 gives 2 '' "$see ask" ask good.sheet
 
+# ---- sine and cosine, by x - x^3/6 on -1 to 1: at one it is 16777216 - 2796203, at 0, 1 and 2 steps its argument
+printf '\10\0\0\0\1\0\1\0\30\0\0\0\24\0\5\0\0\0\0\377\0\0\0\1\0\0\0\1\125\125\325\377\10\0\0\0\377\377\1\0' >odd.sheet
+gives 0 $'0\n13981013\n0\n-13981013\n' '' sine odd.sheet 5 0 0x40000000 2147483648 0xC0000000 --words
+gives 0 $'13981013\n0\n-13981013\n0\n' '' cosine --words odd.sheet 5 0 0x40000000 2147483648 0xC0000000
+gives 0 $'13981013\n13981013\n-13981013\n-13981013\n0\n' '' sine odd.sheet 5 --words 90deg 450deg -90deg -1.25t 123456789012345678901234567890.5t
+gives 0 $'0\n1\n1\n2\n-1\n-1\n' '' sine odd.sheet 5 --words 31 32 95 96 0xffffffe0 0x80000020    # 32 and 96 are ties
+gives 0 $'0.833333313465118408203125\n-0.833333313465118408203125\n' '' cosine - 5 360deg 0.5t <odd.sheet
+gives 1 $'refused 15 at 0\n' 'good.sheet, formula 1: refused 15 at 0: the formula is not of the kind odd' sine good.sheet 1 0 1 2
+gives 1 $'refused 15 at 0\n' 'refused 15 at 0: ' cosine good.sheet 1 0
+gives 1 $'refused 11 at 0\n' 'refused 11 at 0: no formula has that number' sine odd.sheet 4 0 1
+gives 1 $'refused 1 at 24\n' 'refused 1 at 24: the bytes stop' cosine 'cut short.sheet' 1 0 1
+gives 1 $'too long\n' '8,192 bytes' sine deeper/long 1 0
+gives 1 '' 'absent: unreadable: No such file' cosine absent 1 0
+gives 2 '' "is no angle: write degrees as 30deg" sine odd.sheet 5 0 30d
+gives 2 '' "cosine: '1.5' is no angle" cosine odd.sheet 5 0 1.5
+for bad in 65536 -1 one ''; do gives 2 '' 'number' sine odd.sheet "$bad" 0; done
+gives 2 '' 'is no option' cosine odd.sheet 5 0 --loud
+gives 2 '' "ANGLE is missing; $see sine" sine odd.sheet 5
+gives 2 '' "$see cosine" cosine odd.sheet
+
 # ---- a name stays on one line, whatever it is
 odd=$'a: ok, 1 formula\n\e[1mb' shown='a: ok, 1 formula??[1mb'
 cp 'cut short.sheet' "$odd"
@@ -131,11 +151,12 @@ full() { # WORD...
 full list good.sheet
 full check good.sheet
 full ask good.sheet 1 2
+full sine odd.sheet 5 0
 
 # ---- wrong calls, and help, which is printed and nothing else
 gives 2 '' "$see --help" load good.sheet
 gives 2 '' "$see --help"
-for words in --help 'list --help' 'check --help' 'ask --help'; do
+for words in --help 'list --help' 'check --help' 'ask --help' 'sine --help' 'cosine --help'; do
     # shellcheck disable=SC2086
     if "$command" $words >"$room/out" 2>"$room/err" && [ ! -s "$room/err" ] && grep -q '^usage: valvepigeon ' "$room/out"; then
         pass
@@ -150,7 +171,7 @@ ln -s "$command" "$room/a bin/first"
 ln -s 'a bin/first' "$room/second"
 command="$room/second" gives 0 "$listed" '' list good.sheet
 
-# ---- the cases of tests/listings.py and tests/asked.py
+# ---- the cases of tests/listings.py, tests/asked.py and tests/angles.py
 cd "$root" || exit 2
 mkdir "$room/cases"
 python3 -B tests/listings.py "$room/cases" || fail 'tests/listings.py'
@@ -172,6 +193,20 @@ for input in "$room"/cases/*.args; do
     if grep -q refused "${input%.args}.out"; then status=1 text=refused; else status=0 text=; fi
     gives "$status" "$(cat "${input%.args}.out")"$'\n' "$text" ask "${words[@]}"
 done
+
+mkdir "$room/angles"
+python3 -B tests/angles.py "$room/angles" || fail 'tests/angles.py'
+for input in "$room"/angles/*.args; do
+    mapfile -t words <"$input"
+    gives 0 "$(cat "${input%.args}.out")"$'\n' '' "${words[@]}"
+done
+# how angles are taken, part by part
+right 'command/angle.c' compile_c "$room/angle.o" command/angle.c
+right 'command/typed.c' compile_c "$room/typed.o" command/typed.c
+right 'tests/angles.c' link_c "$room/taken" tests/angles.c "$room/angle.o" "$room/typed.o"
+mapfile -t words <"$room/angles/texts"
+run_x86 "$room/taken" "${words[@]}" >"$room/out"
+right 'the angles that texts are taken for' diff "$room/angles/taken" "$room/out"
 
 # ---- processor time, the least of five
 least() { # WORD...

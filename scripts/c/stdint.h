@@ -8,5 +8,6 @@ typedef __UINT64_TYPE__ uint64_t;
 typedef __INT32_TYPE__ int32_t;
 #define INT32_MIN (-__INT32_MAX__ - 1)
 #define UINT16_MAX __UINT16_MAX__
+#define UINT32_MAX __UINT32_MAX__
 #define UINT64_MAX __UINT64_MAX__
 #endif
