@@ -87,6 +87,40 @@ class Reading(Case):
             self.refuses(10, 0, vp.evaluate_double, sheet, 1, beyond)
 
 
+class Turning(Case):
+    """x - x^3/6 at angles, and what is no sine."""
+
+    sheet = vp.write_sheet(
+        b"".join(map(vp.write_record, (POLYNOMIAL, ODD, EVEN))))
+    quarter = 2**30
+
+    def test_sine(self):
+        """At one it is 16777216 - 2796203, at a few steps its argument."""
+        for angle, word in ((0, 0), (self.quarter, 13981013),
+                            (2 * self.quarter, 0),
+                            (3 * self.quarter, -13981013),
+                            # an eighth: a tie, as in test_there_and_back
+                            (self.quarter // 2, 8039083),
+                            (2**32 - self.quarter // 2, -8039083),
+                            # ties at half a step and at one and a half
+                            (31, 0), (32, 1), (95, 1), (96, 2),
+                            (2 * self.quarter - 32, 1), (2**32 - 32, -1)):
+            self.assertEqual(vp.sine(self.sheet, 10, angle).word, word)
+            self.assertEqual(
+                vp.cosine(self.sheet, 10, (angle - self.quarter) % 2**32).word,
+                word)
+
+    def test_refused(self):
+        for function in vp.sine, vp.cosine:
+            self.refuses(vp.NO_SINE, 0, function, self.sheet, 7, 0)
+            self.refuses(15, 0, function, self.sheet, 11, 0)
+            self.refuses(11, 0, function, self.sheet, 8, 0)
+            self.refuses(1, 24, function, SHEET[:31], 1, 0)
+            narrow = vp.write_sheet(vp.write_record(
+                dataclasses.replace(ODD, hi=ONE - 1)))
+            self.refuses(15, 0, function, narrow, 10, 0)
+
+
 class Writing(Case):
     def test_record(self):
         self.assertEqual(vp.write_record(ROOT), SHEET[8:24])
@@ -169,6 +203,8 @@ class Sheets(Case):
             self.raises(TypeError, vp.interval, sheet, 1)
             self.raises(TypeError, vp.evaluate, sheet, 1, 0)
             self.raises(TypeError, vp.evaluate_double, sheet, 1, 0.0)
+            self.raises(TypeError, vp.sine, sheet, 1, 0)
+            self.raises(TypeError, vp.cosine, sheet, 1, 0)
             self.raises(TypeError, vp.write_sheet, sheet)
 
     def test_given_back(self):
@@ -190,7 +226,8 @@ class Numbers(Case):
     def test_formula_number(self):
         for function, more in ((vp.formula, ()), (vp.interval, ()),
                                (vp.evaluate, (0,)),
-                               (vp.evaluate_double, (0.0,))):
+                               (vp.evaluate_double, (0.0,)),
+                               (vp.sine, (0,)), (vp.cosine, (0,))):
             for number in self.no_ints:
                 self.raises(TypeError, function, SHEET, number, *more)
             for number in (-1, 65536, 65537, 10**5000):
@@ -201,6 +238,13 @@ class Numbers(Case):
             self.raises(TypeError, vp.evaluate, SHEET, 1, argument)
         for argument in (2**31, -2**31 - 1, 2**32, 10**5000):
             self.raises(OverflowError, vp.evaluate, SHEET, 1, argument)
+
+    def test_angle(self):
+        for function in vp.sine, vp.cosine:
+            for angle in self.no_ints:
+                self.raises(TypeError, function, SHEET, 1, angle)
+            for angle in (-1, 2**32, 2**64, 10**5000):
+                self.raises(OverflowError, function, SHEET, 1, angle)
 
     def test_double(self):
         for argument in self.no_ints[1:]:

@@ -20,10 +20,16 @@ divided by 2^24. Every function takes any bytes; it gives its answer or raises
         ...
     valvepigeon.Refused: refused 10 at 0: ...
 
+An angle is a part of a turn, which has 2^32 of them: an eighth of a turn is
+
+    >>> with open("sheets/sine-quarter.sheet", "rb") as file:
+    ...     valvepigeon.sine(file.read(), 14, 2**32 // 8).word / 2**24
+    0.7071067690849304
+
 A sheet is any bytes-like object, and its length counts in bytes. A number is an
 int, the argument of `evaluate_double` an int or a float; anything else, a bool
 too, is a TypeError. A number that C could not be given (a formula number
-outside 0..65535, say) is an OverflowError.
+outside 0..65535, say) is an OverflowError; so add angles modulo 2^32.
 
 `pip install ./bindings/python` installs it. The shared library, which
 `./build-library` makes on x86-64 Linux, is looked for where the variable
@@ -55,7 +61,7 @@ LONGEST_RECORD, SHEET_ADDS, MOST_FORMULAS = 120, 16, 64
 CUT_SHORT, WRONG_LENGTH, WRONG_KIND, WRONG_COUNT = 1, 2, 3, 4
 NUMBER_NOT_ABOVE, WRONG_VALUE, RANGE_LEFT, DIVISOR_ZERO = 5, 6, 7, 8
 BYTES_AFTER_END, ARGUMENT_OUTSIDE, NO_SUCH_FORMULA = 9, 10, 11
-BUFFER_TOO_SHORT, NOT_FINITE = 12, 13
+BUFFER_TOO_SHORT, NOT_FINITE, NO_SINE = 12, 13, 15
 
 
 class Refused(Exception):
@@ -134,6 +140,10 @@ def _u16(value: int) -> int:
     return _within(value, 0, 65535)
 
 
+def _u32(value: int) -> int:
+    return _within(value, 0, 4294967295)
+
+
 def _i32(value: int) -> int:
     return _within(value, -2147483648, 2147483647)
 
@@ -191,7 +201,7 @@ def _lent(function: str, content: ReadableBuffer, *arguments: Any) -> Any:
         return _called(function, _start(view), view.nbytes, *arguments)
 
 
-# ---- the seven functions
+# ---- the nine functions
 
 def count(sheet: ReadableBuffer) -> int:
     """How many formulas the sheet has. Refusals 1 to 9."""
@@ -216,6 +226,17 @@ def evaluate_double(sheet: ReadableBuffer, number: int,
     """The answer at a double. Refusals 1 to 9, then 11, 13, 10."""
     return Shown(_lent("vp_evaluate_double", sheet, _u16(number),
                        _double(argument)).value)
+
+
+def sine(sheet: ReadableBuffer, number: int, angle: int) -> Worked:
+    """The sine of an angle by an odd formula whose interval holds 0 to one, as
+    those for sin(pi x/2). Refusals 1 to 9, then 11, 15."""
+    return Worked(_lent("vp_sine", sheet, _u16(number), _u32(angle)).word)
+
+
+def cosine(sheet: ReadableBuffer, number: int, angle: int) -> Worked:
+    """The cosine: the sine of a quarter more. Refusals 1 to 9, then 11, 15."""
+    return Worked(_lent("vp_cosine", sheet, _u16(number), _u32(angle)).word)
 
 
 def interval(sheet: ReadableBuffer, number: int) -> Ends:

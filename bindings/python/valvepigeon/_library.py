@@ -44,6 +44,8 @@ _FUNCTIONS = {
     "vp_formula": (_Found, _BYTES + [c_uint16]),
     "vp_evaluate": (_Worked, _BYTES + [c_uint16, c_int32]),
     "vp_evaluate_double": (_Shown, _BYTES + [c_uint16, c_double]),
+    "vp_sine": (_Worked, _BYTES + [c_uint16, c_uint32]),
+    "vp_cosine": (_Worked, _BYTES + [c_uint16, c_uint32]),
     "vp_interval": (_Ends, _BYTES + [c_uint16]),
     "vp_write_record": (_Written, [FieldsStruct] + _BYTES),
     "vp_write_sheet": (_Written, _BYTES + _BYTES),

@@ -75,6 +75,8 @@ pub const NO_SUCH_FORMULA: u32 = 11;
 pub const BUFFER_TOO_SHORT: u32 = 12;
 /// Refusal 13.
 pub const NOT_FINITE: u32 = 13;
+/// Refusal 15.
+pub const NO_SINE: u32 = 15;
 
 /// A refusal: its number and its place.
 #[derive(Clone, Copy, Debug, PartialEq, Eq)]
@@ -161,6 +163,19 @@ pub fn evaluate(sheet: &[u8], number: u16, argument: i32) -> Result<Worked, Refu
 pub fn evaluate_double(sheet: &[u8], number: u16, argument: f64) -> Result<Shown, Refusal> {
     let r = unsafe { raw::vp_evaluate_double(sheet.as_ptr(), sheet.len(), number, argument) };
     answer(r.refused, r.place, Shown { value: r.value })
+}
+
+/// The sine of an angle by the formula of that number, an odd one whose interval holds 0 to one, as those for sin(pi x/2). An
+/// angle is a part of a turn, which has 2^32 of them; add angles by [`u32::wrapping_add`]. Refusals 1 to 9, then 11, 15.
+pub fn sine(sheet: &[u8], number: u16, angle: u32) -> Result<Worked, Refusal> {
+    let r = unsafe { raw::vp_sine(sheet.as_ptr(), sheet.len(), number, angle) };
+    answer(r.refused, r.place, Worked { word: r.word })
+}
+
+/// The cosine of an angle: the sine of a quarter more. Refusals 1 to 9, then 11, 15.
+pub fn cosine(sheet: &[u8], number: u16, angle: u32) -> Result<Worked, Refusal> {
+    let r = unsafe { raw::vp_cosine(sheet.as_ptr(), sheet.len(), number, angle) };
+    answer(r.refused, r.place, Worked { word: r.word })
 }
 
 /// The interval of the formula of that number. Refusals 1 to 9, then 11.

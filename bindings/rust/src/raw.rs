@@ -72,6 +72,8 @@ unsafe extern "C" {
     pub fn vp_formula(sheet: *const u8, length: usize, number: u16) -> Found;
     pub fn vp_evaluate(sheet: *const u8, length: usize, number: u16, argument: i32) -> Worked;
     pub fn vp_evaluate_double(sheet: *const u8, length: usize, number: u16, argument: f64) -> Shown;
+    pub fn vp_sine(sheet: *const u8, length: usize, number: u16, angle: u32) -> Worked;
+    pub fn vp_cosine(sheet: *const u8, length: usize, number: u16, angle: u32) -> Worked;
     pub fn vp_interval(sheet: *const u8, length: usize, number: u16) -> Ends;
     pub fn vp_write_record(fields: Fields, out: *mut u8, room: usize) -> Written;
     pub fn vp_write_sheet(run: *const u8, run_length: usize, out: *mut u8, room: usize) -> Written;

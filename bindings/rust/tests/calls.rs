@@ -1,4 +1,4 @@
-//! Calls each function of the binding, on the paper's own sheet, at ties, and on an odd and an even formula.
+//! Calls each function of the binding, on the paper's own sheet, at ties, on an odd and an even formula, and at angles.
 
 use valvepigeon::*;
 
@@ -101,6 +101,30 @@ fn odd_and_even() {
     // 12 times 12 is no word
     for kind in [ODD, EVEN] {
         assert_eq!(write_record(&Fields { hi: 12 * ONE, ..series(kind, 1, &[1]) }, &mut run), refused(7, 0));
+    }
+}
+
+#[test]
+fn sines_and_cosines() {
+    let mut run = [0; 2 * LONGEST_RECORD];
+    let first = write_record(&series(ODD, 1, &[ONE, -2796203]), &mut run).unwrap();
+    let length = first + write_record(&series(EVEN, 2, &[ONE]), &mut run[first..]).unwrap();
+    let mut sheet = vec![0; length + SHEET_ADDS];
+    write_sheet(&run[..length], &mut sheet).unwrap();
+    // x - x^3/6 at nought, at one (16777216 - 2796203), at one half, and at ties of the angle
+    let quarter = 1u32 << 30;
+    for (angle, word) in [
+        (0, 0), (quarter, 13981013), (2 * quarter, 0), (3 * quarter, -13981013),
+        (quarter / 2, 8039083), (5 * (quarter / 2), -8039083),
+        (31, 0), (32, 1), (96, 2), (32u32.wrapping_neg(), -1),
+    ] {
+        assert_eq!(sine(&sheet, 1, angle).unwrap().word, word);
+        assert_eq!(cosine(&sheet, 1, angle.wrapping_sub(quarter)).unwrap().word, word);
+    }
+    for function in [sine, cosine] {
+        assert_eq!(function(&sheet, 2, 0), refused(NO_SINE, 0));
+        assert_eq!(function(&sheet, 3, 0), refused(11, 0));
+        assert_eq!(function(&SHEET[..31], 1, 0), refused(1, 24));
     }
 }
 
