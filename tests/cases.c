@@ -1,17 +1,18 @@
-/* Puts the paper's hand-checked rows that are not proved, and every vector of a file (oracle/README.md has its layout), to the
-   library through its C interface, and compares the answers. For each group it prints how many agree; a disagreement is
-   printed with its vector. The exit status is 0 only if all agree and no group is empty. */
+/* Puts the paper's hand-checked rows that are not proved, rows of angles, and every vector of a file (oracle/README.md has its
+   layout) to the library through its C interface, and compares the answers. For each group it prints how many agree; a
+   disagreement is printed with its vector. The exit status is 0 only if all agree and no group is empty. */
 #include <stdint.h>
 #include <stdio.h>
 #include <stdlib.h>
 #include <string.h>
 #include "valvepigeon.h"
 
-enum { BY_HAND, COUNT, FORMULA, EVALUATE, DOUBLE, INTERVAL, RECORD, SHEET, GROUPS };
+enum { BY_HAND, COUNT, FORMULA, EVALUATE, DOUBLE, INTERVAL, RECORD, SHEET, SINE, COSINE, GROUPS };
 enum { FIELDS = 146, WORDS = 32, GUARD = 64, MOST_ROOM = 65535 };
 
-static const char *const names[GROUPS] = {"by hand", "count", "formula", "evaluate", "double", "interval", "record", "sheet"};
-static const unsigned least[GROUPS] = {0, 0, 2, 6, 10, 2, FIELDS + 2, 2};     /* bytes of a question */
+static const char *const names[GROUPS] = {"by hand",  "count",  "formula", "evaluate", "double",
+                                          "interval", "record", "sheet",   "sine",     "cosine"};
+static const unsigned least[GROUPS] = {0, 0, 2, 6, 10, 2, FIELDS + 2, 2, 6, 6};     /* bytes of a question */
 static unsigned long asked[GROUPS], agreed[GROUPS];
 
 static uint64_t get(const uint8_t *at, int size) {
@@ -94,7 +95,7 @@ static void put_written(vp_written r, size_t room) {
     for (long i = (long)room; i < MOST_ROOM + GUARD; i++) strayed |= out[i] != beforehand(i);
 }
 
-/* ---- the seven questions */
+/* ---- the nine questions */
 static void answer_reader(int group, const uint8_t *q, size_t n) {
     if (group == COUNT) {
         vp_counted r = vp_count(q, n);
@@ -124,6 +125,13 @@ static void answer_board(int group, const uint8_t *q, size_t n) {
     }
 }
 
+static void answer_angle(int group, const uint8_t *q, size_t n) {
+    vp_worked (*function)(const uint8_t *, size_t, uint16_t, uint32_t) = group == SINE ? vp_sine : vp_cosine;
+    vp_worked r = function(q + 6, n - 6, (uint16_t)get(q, 2), (uint32_t)get(q + 2, 4));
+    put_head(r.refused, r.place);
+    put((uint32_t)r.word, 4);
+}
+
 static void answer_writer(int group, const uint8_t *q, size_t n) {
     fill();
     if (group == RECORD) {
@@ -140,6 +148,7 @@ static void answer(int question, const uint8_t *q, size_t n) {
     strayed = 0;
     if (question == COUNT || question == FORMULA || question == INTERVAL) answer_reader(question, q, n);
     else if (question == EVALUATE || question == DOUBLE) answer_board(question, q, n);
+    else if (question == SINE || question == COSINE) answer_angle(question, q, n);
     else answer_writer(question, q, n);
 }
 
@@ -165,7 +174,7 @@ static void compare(int group, unsigned long number, int question, const uint8_t
     hex("got     ", got, got_length);
 }
 
-/* ---- the paper's rows, as vectors in hexadecimal */
+/* ---- the rows, as vectors in hexadecimal: the paper's, then those of angles */
 static uint8_t row_question[256], row_answer[256];
 
 static size_t from_hex(uint8_t *to, const char *text) {
@@ -186,7 +195,17 @@ static size_t from_hex(uint8_t *to, const char *text) {
 /* 120 + 60x + 12x^2 + x^3 over its mirror on [-1, 1] */
 #define CUBIC_WORDS "00000078 0000003c 0000000c 00000001 00000078 000000c4 0000000c 000000ff "
 #define CUBIC "34000000 1100 0100 000000ff 00000001 0400 0400 " CUBIC_WORDS
+/* x - x^3/6 from 0 to 1, and what it gives at one, 16777216 - 2796203 = 13981013, and at one half, where 8039082.5 is a tie; below
+   2897 steps the square is 0, and it gives its argument */
+#define ODD_FROM(lo, hi) START "18000000 1400 0100 " lo hi "00000001 5555d5ff " END
+#define ODD ODD_FROM("00000000 ", "00000001 ")
+#define AT_ONE "5555d500"
+#define AT_ONE_NEGATED "abaa2aff"
+#define AT_HALF "abaa7a00"
+#define AT_HALF_NEGATED "555585ff"
+#define EVEN START "18000000 1500 0100 00000000 00000001 00000001 5555d5ff " END
 #define ACCEPTED "00 00000000 "
+#define NO_SINE "0f 00000000 00000000"
 #define FOUR_ZEROS "00000000 00000000 00000000 00000000 "
 #define ZEROS_24 FOUR_ZEROS FOUR_ZEROS FOUR_ZEROS FOUR_ZEROS FOUR_ZEROS FOUR_ZEROS
 #define ZEROS_32 ZEROS_24 FOUR_ZEROS FOUR_ZEROS
@@ -210,6 +229,35 @@ static const struct { int question; const char *asked, *answered; } rows[] = {
     {COUNT, START ROOT, "01 18000000 0000"},
     {COUNT, START ROOT "08000000 ffff 01", "01 18000000 0000"},
     {COUNT, START ROOT "00000000 0000 0000", "02 18000000 0000"},
+    {SINE, "0100 00000000 " ODD, ACCEPTED "00000000"},
+    {SINE, "0100 00000040 " ODD, ACCEPTED AT_ONE},                  /* a quarter: f becomes 2^30 */
+    {SINE, "0100 00000080 " ODD, ACCEPTED "00000000"},
+    {SINE, "0100 000000c0 " ODD, ACCEPTED AT_ONE_NEGATED},
+    {SINE, "0100 00000020 " ODD, ACCEPTED AT_HALF},                 /* the middle of each quarter */
+    {SINE, "0100 00000060 " ODD, ACCEPTED AT_HALF},
+    {SINE, "0100 000000a0 " ODD, ACCEPTED AT_HALF_NEGATED},
+    {SINE, "0100 000000e0 " ODD, ACCEPTED AT_HALF_NEGATED},
+    {SINE, "0100 1f000000 " ODD, ACCEPTED "00000000"},              /* 31/64, and the tie 32/64 */
+    {SINE, "0100 20000000 " ODD, ACCEPTED "01000000"},
+    {SINE, "0100 60000000 " ODD, ACCEPTED "02000000"},              /* 96/64 */
+    {SINE, "0100 e0ffff7f " ODD, ACCEPTED "01000000"},              /* 32 before each half turn, and behind the first */
+    {SINE, "0100 e0ffffff " ODD, ACCEPTED "ffffffff"},
+    {SINE, "0100 20000080 " ODD, ACCEPTED "ffffffff"},
+    {SINE, "0100 e0ffff3f " ODD, ACCEPTED AT_ONE},                  /* 32 before and behind a quarter: one less half a step */
+    {SINE, "0100 20000040 " ODD, ACCEPTED AT_ONE},
+    {COSINE, "0100 00000000 " ODD, ACCEPTED AT_ONE},
+    {COSINE, "0100 00000040 " ODD, ACCEPTED "00000000"},
+    {COSINE, "0100 00000080 " ODD, ACCEPTED AT_ONE_NEGATED},
+    {COSINE, "0100 000000c0 " ODD, ACCEPTED "00000000"},            /* the sum wraps */
+    {COSINE, "0100 200000c0 " ODD, ACCEPTED "01000000"},
+    {COSINE, "0100 000000e0 " ODD, ACCEPTED AT_HALF},
+    {SINE, "0100 00000000 " ODD_FROM("01000000 ", "00000001 "), NO_SINE},
+    {SINE, "0100 00000000 " ODD_FROM("00000000 ", "ffffff00 "), NO_SINE},
+    {SINE, "0100 00000080 " ODD_FROM("00000080 ", "00000001 "), "06 08000000 00000000"},
+    {SINE, "0100 00000000 " EVEN, NO_SINE},
+    {COSINE, "0100 00000000 " START ROOT END, NO_SINE},
+    {SINE, "0200 00000000 " EVEN, "0b 00000000 00000000"},
+    {COSINE, "0100 00000000 " EVEN "00", "09 28000000 00000000"},
 };
 
 static void by_hand(void) {
@@ -241,7 +289,7 @@ static size_t one_vector(unsigned long number, const uint8_t *v, size_t left) {
     if (left < 3) return 0;
     int question = v[0];
     size_t n = get(v + 1, 2);
-    if (question < COUNT || question > SHEET || n < least[question] || left < 3 + n + 2) return 0;
+    if (question < COUNT || question >= GROUPS || n < least[question] || left < 3 + n + 2) return 0;
     size_t length = get(v + 3 + n, 2);
     if (left < 3 + n + 2 + length) return 0;
     compare(question, number, question, v + 3, n, v + 3 + n + 2, length);

@@ -1,9 +1,10 @@
 #!/usr/bin/env bash
-# The library through its C interface: the paper's hand-checked rows that are not proved, and every vector of the second program.
+# The library through its C interface: the paper's hand-checked rows that are not proved, rows of angles, and every vector of the
+# second program.
 set -u
 cd "$(dirname "$0")/.." || exit 2
 . tests/lib.sh
-groups='by hand|count|formula|evaluate|double|interval|record|sheet'
+groups='by hand|count|formula|evaluate|double|interval|record|sheet|sine|cosine'
 
 if ./build-library >"$room/log" 2>&1; then pass; else tail -n 5 "$room/log"; fail './build-library'; fi
 python3 -c 'import lzma, sys; sys.stdout.buffer.write(lzma.open("oracle/vectors.xz").read())' >"$room/vectors"

@@ -50,6 +50,8 @@ static void questions(void) {
     hold("VP_NO_SUCH_FORMULA", vp_formula(sheet, sizeof sheet, 2).refused, VP_NO_SUCH_FORMULA);
     hold("VP_BUFFER_TOO_SHORT", vp_write_sheet(sheet + 8, 16, out, sizeof out).refused, VP_BUFFER_TOO_SHORT);
     hold("VP_NOT_FINITE", vp_evaluate_double(sheet, sizeof sheet, 1, __builtin_inf()).refused, VP_NOT_FINITE);
+    hold("VP_NO_SINE", vp_sine(sheet, sizeof sheet, 1, 0).refused, VP_NO_SINE);
+    hold("VP_NO_SINE", vp_cosine(sheet, sizeof sheet, 1, 0).refused, VP_NO_SINE);
 }
 
 /* What a formula with the words 1, 1 and 2 answers at one half, on 0 to one half. */
