@@ -4,8 +4,8 @@
 
 writes 'texts', an angle a line, and 'taken', the part of a turn that each is,
 or 'none'; and for each case of `sine` and `cosine` NAME.args, a word of the
-call a line, and NAME.out. Angles are taken by exact fractions here. A sine is
-worked by the rule of M-102, over the second program's answer of the formula.
+call a line, and NAME.out. Angles are taken by exact fractions here; sines and
+cosines are the second program's.
 """
 
 import sys
@@ -15,13 +15,11 @@ from pathlib import Path
 from random import Random
 
 from asked import ROOT, shown
-from evaluation import evaluate
 from formulas import ODD, Formula
 from makers import sheet_of
 from number import ONE
+from turn import TURN, cosine, sine
 
-TURN = 2 ** 32
-QUARTER = TURN // 4
 UNITS = {"deg": 360, "t": 1}  # how many are a turn
 DRAWN = 100  # of each sort
 FEW = 200  # angles that every ready formula is asked
@@ -95,18 +93,6 @@ def any_digits(draw):
                 for most in (45, 60))
             sign = draw.choice(("", "-", "+"))
             yield sign + (whole or "0") + "." + behind + unit
-
-
-def sine(content, number, angle):
-    quarter, f = divmod(angle, QUARTER)
-    if quarter % 2:
-        f = QUARTER - f
-    word = evaluate(content, number, floor(Fraction(f, 64) + Fraction(1, 2)))
-    return -word if quarter >= 2 else word
-
-
-def cosine(content, number, angle):
-    return sine(content, number, (angle + QUARTER) % TURN)
 
 
 def cases(folder, angles):

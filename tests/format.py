@@ -29,7 +29,6 @@ from sheet import END
 KINDS = {name: kind for kind, name in NAMES.items()}
 KINDS["end"] = END
 ENOUGH_ROOM = 200
-BY_ANGLE = {"sine": 8, "cosine": 9}  # the questions' numbers
 
 sheets = {}     # the page's sheets, by name
 vectors = []    # questions with the page's answers
@@ -93,7 +92,7 @@ def values_of(question, content, answer):
         return pack("<H", int(answer))
     if question == questions.FORMULA:
         return questions.packed_fields(formula_of(answer))
-    if question in (questions.EVALUATE, *BY_ANGLE.values()):
+    if question in (questions.EVALUATE, questions.SINE, questions.COSINE):
         return pack("<i", int(answer))
     if question in (questions.DOUBLE, questions.INTERVAL):
         return b"".join(pack("<d", float(x)) for x in answer.split())
@@ -187,8 +186,10 @@ def ask(verb, rest):
         return questions.ask_interval(sheet, int(own))
     if verb == "evaluate":
         return questions.ask_evaluate(sheet, int(own), int(x))
-    if verb in BY_ANGLE:
-        return BY_ANGLE[verb], pack("<HI", int(own), int(x, 0)) + sheet
+    if verb == "sine":
+        return questions.ask_sine(sheet, int(own), int(x, 0))
+    if verb == "cosine":
+        return questions.ask_cosine(sheet, int(own), int(x, 0))
     if verb == "double":
         pattern = int.from_bytes(pack("<d", float(x)), "little")
         return questions.ask_double(sheet, int(own), pattern)
