@@ -1,8 +1,9 @@
 -- Promise: by a sheet that has the sine every angle is answered: its argument lies in the interval, and the answer is the formula's own there, or the
 -- negation of that, and a word. Any other formula gives 15 to every angle. The reader's refusals come before both.
-use Rattle.whole.proofs.Basics.{_≡_, _∙_, refl, ap, Bool, true, false, cond, _⊎_, inl, inr, List, ℕ, arith, ltb, ℤ, negℤ, _≤ℤ_}
-use Rattle.whole.proofs.Order.{≤ℤ-trans, abs-neg}
-use Rattle.word.specs.Words.{Word}
+use Rattle.whole.proofs.Basics.{_≡_, _∙_, ap, _⊎_, inl, inr, List, ℕ, arith, ltb, ℤ, _≤ℤ_}
+use Rattle.whole.proofs.Order.{≤ℤ-trans}
+use Rattle.word.specs.Words.{Word, withSign}
+use Rattle.word.proofs.SignLaws.{sign-abs}
 use Rattle.formula.specs.declared.Formula.{Formula}
 use Rattle.formula.specs.Formula.{answerOf}
 use Rattle.layout.specs.Fields.{wordsIn}
@@ -19,17 +20,9 @@ use Rattle.answering.proofs.IntervalLaws.{answerable}
 use Rattle.board.specs.Board.{whenGiven, evaluated}
 use Rattle.board.proofs.AnswersInside.{formulaGiven, by-formula, answers-inside, odd-word}
 use Rattle.turn.specs.Angles.{quarterOf, restOf, argumentIn, argumentOf}
-use Rattle.turn.specs.Sine.{sineFault, ForSine, HasSine, negated, signedIn, sineBy, sineIn, sineOf}
+use Rattle.turn.specs.Sine.{sineFault, ForSine, HasSine, signedIn, sineBy, sineIn, sineOf}
 use Rattle.turn.proofs.ArgumentLaws.{rest-most, argument-low, argument-high}
 use Rattle.turn.proofs.FaultLaws.{or-fifteen, sine-needs, sine-enough}
-
--- a word with the sign of a quarter
-abbrev pub wordIn : ℕ → ℤ → ℤ
-wordIn quarter w = cond (ltb quarter 2) w (negℤ w)
-
-signed-word : (t : Bool) (w : ℤ) → Word w → Word (cond t w (negℤ w))
-signed-word true w h = h
-signed-word false w h = omega (arith, abs-neg w)
 
 module _ (s : ℕ) (bytes : List ℕ) (n : ℕ) where
   abbrev f : Formula
@@ -69,17 +62,12 @@ module _ (s : ℕ) (bytes : List ℕ) (n : ℕ) where
       pub argument-below : x ≤ℤ f .hi
       argument-below = ≤ℤ-trans (argument-high s (given-scale s bytes n (has .0)) (quarterOf a) (restOf a) (rest-most a)) (has .1 .high)
 
-      pub every-angle : sineOf s bytes n a ≡ answered (wordIn (quarterOf a) own)
+      pub every-angle : sineOf s bytes n a ≡ answered (withSign (ltb 1 (quarterOf a)) own)
       every-angle =
           sine-given (quarterOf a) (restOf a)
           ∙ ap (signedIn (quarterOf a)) (answers-inside s bytes n (has .0) x argument-above argument-below)
-          ∙ at (ltb (quarterOf a) 2)
-        where
-          at : (t : Bool) → cond t (answered own) (negated (answered own)) ≡ answered (cond t own (negℤ own))
-          at true = refl
-          at false = refl
 
       pub sine-word : Word (evaluationWord (sineOf s bytes n a))
       sine-word =
           let k = answerable s f x argument-above argument-below (given-scale s bytes n (has .0)) (given-fits s bytes n (has .0) .0) in
-          rw every-angle (signed-word (ltb (quarterOf a) 2) own (odd-word s f x (has .1 .odd) k))
+          rw every-angle (omega (arith, sign-abs (ltb 1 (quarterOf a)) own, odd-word s f x (has .1 .odd) k))

@@ -23,13 +23,13 @@ use Rattle.board.specs.Board.{whenGiven, evaluated}
 use Rattle.board.proofs.AnswersInside.{formulaGiven}
 use Rattle.board.proofs.BothSides.{sheet-negated}
 use Rattle.turn.specs.Angles.{halfTurn, quarterTurn, Angle, angleSum, angleDifference, quarterOf, restOf, argumentIn}
-use Rattle.turn.specs.Sine.{sineFault, HasSine, negated, sineIn, sineOf, cosineOf}
+use Rattle.turn.specs.Sine.{sineFault, HasSine, signedBy, negated, sineIn, sineOf, cosineOf}
 use Rattle.turn.proofs.AngleLaws.{by-quarter, sum-angle, difference-angle, half-more-parts, half-minus-start, half-minus-inside, negated-angle, negated-quarter, half-quarter}
 use Rattle.turn.proofs.ArgumentLaws.{quarter-is}
 use Rattle.turn.proofs.FaultLaws.{or-fifteen, sine-needs}
 use Rattle.turn.proofs.EveryAngle.{sine-given}
 
--- ---- negation: twice is none, only 0 is its own, and it goes past refusals, both ways
+-- ---- negation: twice is none, and only 0 is its own
 negated-back : (e : Evaluation) → negated (negated e) ≡ e
 negated-back (Answered w) = ap answered (negℤ-negℤ (w .word))
 negated-back (Refused r) = refl
@@ -37,6 +37,7 @@ negated-back (Refused r) = refl
 own-negation : (w : ℤ) → w ≡ negℤ w → w ≡ pos 0
 own-negation w e = omega (zarith, (⊖ v w) .is)
 
+-- it goes past refusals
 past : (a : Found) (fault : ℕ) (e : Evaluation) → whenGiven a (guard fault refused (negated e)) ≡ negated (whenGiven a (guard fault refused e))
 past (Withheld r) fault e = refl
 past Given fault e = at (eqb fault 0)
@@ -45,8 +46,10 @@ past Given fault e = at (eqb fault 0)
     at true = refl
     at false = refl
 
-past-back : (a : Found) (fault : ℕ) (e : Evaluation) → whenGiven a (guard fault refused e) ≡ negated (whenGiven a (guard fault refused (negated e)))
-past-back a fault e = sym (negated-back _) ∙ ap negated (sym (past a fault e))
+-- in quarters 0 and 1 an answer is as it is
+plainly : (e : Evaluation) → signedBy false e ≡ e
+plainly (Answered w) = refl
+plainly (Refused r) = refl
 
 module _ (s : ℕ) (bytes : List ℕ) (n : ℕ) where
   abbrev found : Found
@@ -70,7 +73,7 @@ module _ (s : ℕ) (bytes : List ℕ) (n : ℕ) where
         e ∙ ap answered (sym w ∙ own-negation _ w)
 
     pub sine-of-zero : sineOf s bytes n 0 ≡ answered (pos 0)
-    sine-of-zero = sine-given s bytes n has 0 0 ∙ ap (evaluated s bytes n) (own-negation _ (rounded-odd (pos 0) (2 ^ (30 - s)))) ∙ zero-answer
+    sine-of-zero = sine-given s bytes n has 0 0 ∙ plainly (plain 0 0) ∙ ap (evaluated s bytes n) (own-negation _ (rounded-odd (pos 0) (2 ^ (30 - s)))) ∙ zero-answer
 
     one-argument : argumentIn s 1 0 ≡ pos (unit s)
     one-argument =
@@ -78,19 +81,25 @@ module _ (s : ℕ) (bytes : List ℕ) (n : ℕ) where
         ∙ rounded-exact (pos (unit s)) (2 ^ (30 - s)) (pow-pos (30 - s))
 
     pub sine-of-quarter : sineOf s bytes n quarterTurn ≡ evaluated s bytes n (pos (unit s))
-    sine-of-quarter = sine-given s bytes n has 1 0 ∙ ap (evaluated s bytes n) one-argument
+    sine-of-quarter = sine-given s bytes n has 1 0 ∙ plainly (plain 1 0) ∙ ap (evaluated s bytes n) one-argument
 
     pub cosine-of-zero : cosineOf s bytes n 0 ≡ evaluated s bytes n (pos (unit s))
     cosine-of-zero = sine-of-quarter
 
   -- ---- half a turn more
+  opposite : (e : Evaluation) → whenGiven found (guard fault refused (negated e)) ≡ negated (whenGiven found (guard fault refused (signedBy false e)))
+  opposite e = past found fault e ∙ ap (λ (i : Evaluation). negated (whenGiven found (guard fault refused i))) (sym (plainly e))
+
   pub half-more : (a : ℕ) → Angle a → sineOf s bytes n (angleSum a halfTurn) ≡ negated (sineOf s bytes n a)
   half-more a h =
       let f = restOf a in
       let p = half-more-parts a h in
       ap₂ (sineIn s bytes n) (p .0) (p .1)
       ∙ by-quarter (λ (q : ℕ). sineIn s bytes n ((q + 2) % 4) f ≡ negated (sineIn s bytes n q f))
-      (past found fault (plain 0 f)) (past found fault (plain 1 f)) (past-back found fault (plain 0 f)) (past-back found fault (plain 1 f)) a h
+      (opposite (plain 0 f)) (opposite (plain 1 f)) (back (plain 0 f)) (back (plain 1 f)) a h
+    where
+      back : (e : Evaluation) → whenGiven found (guard fault refused (signedBy false e)) ≡ negated (whenGiven found (guard fault refused (negated e)))
+      back e = sym (negated-back _) ∙ ap negated (sym (opposite e))
 
   -- ---- half a turn minus an angle. Of the quarters' starts only 0 and half a turn change places
   half-as-zero : sineOf s bytes n halfTurn ≡ sineOf s bytes n 0

@@ -1,12 +1,12 @@
 -- Sine and cosine of an angle, by an odd formula of a whole sheet: the reader's refusals, then 15. The binary places are s.
 use mathlib.Core.Path.{_≡_, refl}
-use mathlib.Core.Bool.{cond}
+use mathlib.Core.Bool.{Bool, true, cond}
 use mathlib.Core.List.{List, [], _∷_}
 use Prim.Native.Nat.{ℕ}
 use lib.Dec.{ltb}
-use lib.IntN.{ℤ, pos, negsuc, negℤ}
+use lib.IntN.{ℤ, pos, negsuc}
 use lib.Signed.{_≤ℤ_, ltZ}
-use Rattle.word.specs.Words.{unit}
+use Rattle.word.specs.Words.{unit, withSign}
 use Rattle.formula.specs.declared.Kind.{Kind}
 use Rattle.formula.specs.declared.Kind.the-variants.{Polynomial, Rational, Fraction, Root, Odd, Even, NoFormula}
 use Rattle.formula.specs.declared.Formula.{Formula}
@@ -50,13 +50,17 @@ pub record ForSine (s : ℕ) (f : Formula) : Type 0 where
 abbrev pub HasSine : ℕ → List ℕ → ℕ → Type 0
 HasSine s bytes n = HasFormula s bytes n × ForSine s (formulaRead s bytes n .formula)
 
--- ---- negated in quarters 2 and 3
-abbrev pub negated : Evaluation → Evaluation
-negated (Answered w) = Answered (record { word = negℤ (w .word) })
-negated (Refused r) = Refused r
+-- ---- an answer, negated where the sign is set; a refusal stays as it is
+abbrev pub signedBy : Bool → Evaluation → Evaluation
+signedBy sign (Answered w) = Answered (record { word = withSign sign (w .word) })
+signedBy sign (Refused r) = Refused r
 
+abbrev pub negated : Evaluation → Evaluation
+negated e = signedBy true e
+
+-- negated in quarters 2 and 3
 abbrev pub signedIn : ℕ → Evaluation → Evaluation
-signedIn quarter e = cond (ltb quarter 2) e (negated e)
+signedIn quarter e = signedBy (ltb 1 quarter) e
 
 -- ---- what the board answers at the argument, or its negation
 abbrev pub sineBy : ℕ → Formula → ℕ → Evaluation → Evaluation

@@ -5,7 +5,7 @@ ghost use Rattle.records.specs.Sheets.{FormulaBytes};
 ghost use Rattle.sheet.specs.Reader.{formulaIn};
 ghost use Rattle.answering.specs.Answering.{evaluationWord, answerAt};
 ghost use Rattle.turn.specs.Angles.{quarterOf, argumentOf};
-ghost use Rattle.turn.specs.Sine.{oddFault, spanFault, sineFault, negated, sineBy, sineOf, cosineOf};
+ghost use Rattle.turn.specs.Sine.{oddFault, spanFault, sineFault, signedBy, sineBy, sineOf, cosineOf};
 
 mod angle;
 
@@ -57,12 +57,15 @@ fn sine_fault(b: &[u8], s: u32) -> u8
     span_fault(layout::lo(b), layout::hi(b), s)
 }
 
-fn negated(e: Evaluation) -> Evaluation
+// The answer, negated where the sign is set.
+fn signed(e: Evaluation, sign: bool) -> Evaluation
     requires { ⌜ Word (evaluationWord e) ⌝ }
-    ensures { λ r. ⌜ r ≡ negated e ⌝ }
+    ensures { λ r. ⌜ r ≡ signedBy sign e ⌝ }
 {
     match e {
-        Evaluation::Answered(w) => Evaluation::Answered(Worked { word: -w.word }),
+        Evaluation::Answered(w) => Evaluation::Answered(Worked {
+            word: word::with_sign(sign, w.word as i64) as i32,
+        }),
         Evaluation::Refused(r) => Evaluation::Refused(r),
     }
 }
@@ -77,11 +80,7 @@ fn sine_of(b: &[u8], angle: u32, s: u32) -> Evaluation
         return answering::refused(f);
     }
     let e = answering::answer_of(b, angle::argument(angle, s), s);
-    if angle::quarter(angle) < 2 {
-        e
-    } else {
-        negated(e)
-    }
+    signed(e, 1 < angle::quarter(angle))
 }
 
 pub fn sine(s: &[u8], number: u16, angle: u32, places: u32) -> Evaluation

@@ -1,6 +1,6 @@
--- `turn::sine_of` meets its contract: 15, or the answer at the argument, which lies in the interval, so that it is a word and can be negated.
-use Rattle.whole.proofs.Basics.{_≡_, _∙_, sym, ap, subst, Bool, cond, List, ℕ, arith, ltb, ℤ, pos, _≤ℤ_, w32, now, needs, lt-ltb, le-ltb}
-use Rattle.whole.proofs.Held.{held, arg, given}
+-- `turn::sine_of` meets its contract: 15, or the answer at the argument, which lies in the interval, so that it is a word.
+use Rattle.whole.proofs.Basics.{_≡_, _∙_, sym, ap, ap₂, subst, ℤ, w32, now, needs}
+use Rattle.whole.proofs.Held.{held, given}
 use Rattle.whole.proofs.Order.{≤ℤ-trans}
 use Rattle.word.specs.Words.{Word}
 use Rattle.formula.specs.declared.Formula.{Formula}
@@ -12,7 +12,7 @@ use Rattle.answering.specs.declared.answers.Evaluation.{Evaluation}
 use Rattle.answering.proofs.IntervalLaws.{inside, answerable}
 use Rattle.board.proofs.AnswersInside.{odd-word}
 use Rattle.turn.specs.Angles.{quarterOf, restOf, argumentOf}
-use Rattle.turn.specs.Sine.{sineFault, negated, signedIn}
+use Rattle.turn.specs.Sine.{sineFault, signedIn}
 use Rattle.turn.proofs.ArgumentLaws.{rest-most, argument-low, argument-high}
 use Rattle.turn.proofs.FaultLaws.{sine-needs}
 use Rattle.turn.proofs.sine_of.Statement.{statement}
@@ -25,10 +25,6 @@ module _ (d : tie.Start) where
   abbrev x : ℤ
   x = argumentOf (d .args .s) (d .args .angle)
 
-  -- the answer, with a sign by the quarter
-  abbrev signed : Bool → Evaluation
-  signed t = cond t (answerAt (d .args .s) f x) (negated (answerAt (d .args .s) f x))
-
   -- it is a word where there is no fault
   word : sineFault (d .args .s) f ≡ 0 → Word (evaluationWord (answerAt (d .args .s) f x))
   word e =
@@ -40,7 +36,9 @@ module _ (d : tie.Start) where
       subst (λ (e : Evaluation). Word (evaluationWord e)) (inside s f x l h) (odd-word s f x (k .odd) (answerable s f x l h (d .pre .0) (fit s (now (d .args .b)) (d .pre .1))))
 
 returns : tie.Need-returns
-returns c = halts refused (signedIn (quarterOf (c .before .before .before .before .args .angle)) _) (c .before .before .sine-fault .ensures) (c .before .if1 .taken) (c .refused .ensures)
+returns c =
+    let d = c .before .before .before .before in
+    halts refused (signedIn (quarterOf (d .args .angle)) (answerAt (d .args .s) (f d) (x d))) (c .before .before .sine-fault .ensures) (c .before .if1 .taken) (c .refused .ensures)
 
 -- past the fault: what the board answers at the argument
 module _ (c : tie.After-answer-of) where
@@ -53,20 +51,14 @@ module _ (c : tie.After-answer-of) where
   answer : c .answer-of .result ≡ answerAt (start .args .s) (f start) (x start)
   answer = c .answer-of .ensures ∙ ap (answerAt (start .args .s) (f start)) (held (given {w = w32} (c .before .argument .ok)) ∙ c .before .argument .ensures)
 
-negated-requires : tie.Need-negated-requires
-negated-requires c κs = rw (answer (c .before .before)) (word (start (c .before .before)) (no-fault (c .before .before)))
+signed-requires : tie.Need-signed-requires
+signed-requires c κs = let e = c .before in rw (answer e) (word (start e) (no-fault e))
 
 returns-2 : tie.Need-returns-2
 returns-2 c =
     let e = c .before .before in
     goes refused (e .before .before .before .sine-fault .ensures) (e .before .before .if1 .left)
-    (answer e ∙ sym (ap (signed (start e)) (lt-ltb _ 2 (rw (c .before .quarter .ensures) at (c .if2 .taken)))))
-
-returns-3 : tie.Need-returns-3
-returns-3 c =
-    let e = c .before .before .before in
-    goes refused (e .before .before .before .sine-fault .ensures) (e .before .before .if1 .left)
-    (c .negated .ensures ∙ ap negated (answer e) ∙ sym (ap (signed (start e)) (le-ltb _ 2 (rw (c .before .before .quarter .ensures) at (c .before .if2 .left)))))
+    (c .signed .ensures ∙ ap₂ signedIn (c .before .quarter .ensures) (answer e))
 
 pub sine-of-spec : {M : Type 1} → statement M
 sine-of-spec =
@@ -78,6 +70,5 @@ sine-of-spec =
     (λ c κs. search needs)
     (λ c κs. search needs)
     (λ c κs. search needs)
-    negated-requires
-    returns-2
-    returns-3)
+    signed-requires
+    returns-2)
