@@ -3,10 +3,9 @@ use Rattle.whole.proofs.Basics.{_≡_, _∙_, sym, ap, Bool, true, false, cond,
 use lib.Pow.{pow-add, pow-pos}
 use Rattle.whole.proofs.Diff.{v, n, _⊗_, _⊝_, size}
 use Rattle.whole.proofs.Order.{pos-le}
-use Rattle.word.specs.Rounded.{rounded}
 use Rattle.word.specs.Words.{Scale, unit}
 use Rattle.word.proofs.RoundedLaws.{rounded-near, rounded-size, up-least}
-use Rattle.turn.specs.Angles.{quarterTurn, quarterOf, restOf, foldedIn, argumentIn, argumentOf}
+use Rattle.turn.specs.Angles.{quarterTurn, restOf, foldedIn, argumentIn}
 
 pub rest-most : (a : ℕ) → restOf a ≤ quarterTurn
 rest-most a = omega arith

@@ -1,7 +1,7 @@
 // From an angle to its formula's argument.
 ghost use mathlib.Core.Path.{_≡_};
 ghost use Rattle.word.specs.Words.{Scale};
-ghost use Rattle.turn.specs.Angles.{quarterOf, foldedIn, argumentOf, restOf};
+ghost use Rattle.turn.specs.Angles.{quarterOf, restOf, foldedIn, argumentOf};
 
 // An angle is a 32-bit part of a turn; this is a quarter of one.
 pub const QUARTER: u32 = 0x4000_0000;

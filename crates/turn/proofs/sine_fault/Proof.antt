@@ -1,8 +1,7 @@
 -- `turn::sine_fault` meets its contract: the kind is that of the record's row, the ends are the record's own.
-use Rattle.whole.proofs.Basics.{_≡_, _∙_, sym, ap, ap₂, List, ℕ, arith, ℤ, w32, now, needs}
+use Rattle.whole.proofs.Basics.{_≡_, _∙_, sym, ap, ap₂, List, ℕ, arith, w32, now, needs}
 use Rattle.whole.proofs.Fit.{fit-abs}
 use Rattle.whole.proofs.Held.{held, known}
-use Rattle.formula.specs.declared.Kind.{Kind}
 use Rattle.formula.specs.declared.Formula.{Formula}
 use Rattle.table.specs.declared.Row.{Row}
 use Rattle.faults.proofs.Chain.{stop, pass}

@@ -5,7 +5,7 @@ use Rattle.whole.proofs.Order.{≤ℤ-trans}
 use Rattle.word.specs.Words.{Word}
 use Rattle.formula.specs.declared.Formula.{Formula}
 use Rattle.faults.proofs.Chain.{halts, goes}
-use Rattle.sheet.specs.Reader.{formulaIn, Fit}
+use Rattle.sheet.specs.Reader.{formulaIn}
 use Rattle.sheet.proofs.Words.{fit}
 use Rattle.answering.specs.Answering.{evaluationWord, refused, answerAt}
 use Rattle.answering.specs.declared.answers.Evaluation.{Evaluation}

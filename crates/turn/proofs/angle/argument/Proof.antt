@@ -5,7 +5,7 @@ use Rattle.whole.proofs.Diff.{n}
 use Rattle.whole.proofs.Fit.{fit, fit-abs}
 use Rattle.whole.proofs.Held.{back, Held, fits-code, held, held-nat, arg, known, cast}
 use Rattle.word.specs.Rounded.{rounded}
-use Rattle.turn.specs.Angles.{quarterTurn, quarterOf, restOf, foldedIn, argumentOf}
+use Rattle.turn.specs.Angles.{quarterTurn, quarterOf, restOf, argumentOf}
 use Rattle.turn.proofs.ArgumentLaws.{rest-most, folded-most, argument-size}
 use Rattle.turn.proofs.angle.argument.Statement.{statement}
 use Rattle.turn.proofs.angle.argument.Tie as tie
