@@ -11,8 +11,8 @@ static int angles_understood(const question *q) {
     if (q->count == FIRST_ARGUMENT) return missing(q, "ANGLE");
     for (int i = FIRST_ARGUMENT; i < q->count; i++)
         if (!angle_from(q->words[i], &angle))
-            return wrong(q, q->words[i], "is no angle: write degrees as 30deg, turns as 0.125t, "
-                                         "or parts, of which a turn has 2^32, as 1073741824 or 0x40000000");
+            return wrong(q, q->words[i], "is no angle: write degrees as 30deg, turns as 0.125t, or parts of a turn, "
+                                         "0 to 4294967295, as 1073741824 or 0x40000000");
     return 1;
 }
 

@@ -144,10 +144,11 @@ vp_worked vp_evaluate(const uint8_t *sheet, size_t length, uint16_t number, int3
 vp_shown vp_evaluate_double(const uint8_t *sheet, size_t length, uint16_t number, double argument);
 
 /* The sine of an angle, by the sheet's formula of that number, which has to be of the kind odd and to hold 0 to one in its
-   interval: one for sin(pi x/2), as sheets/sine-quarter.sheet has. In the first quarter of a turn it answers at the angle divided
-   by 2^6, rounded as a product is, so that a quarter is one; in the second as at half a turn minus the angle; in the third and the
-   fourth the answer is that at half a turn less, negated. So for every angle, exactly: half a turn more negates the sine, half a
-   turn minus the angle keeps it, and the negated angle negates it. Refusals 1 to 9, then 11, 15; no angle is refused. */
+   interval: one for sin(pi x/2), as the repository's sheets/sine-quarter.sheet has; what function it is for is not checked. In the
+   first quarter of a turn it answers at the angle divided by 2^6, rounded as a product is, so that a quarter is one; in the second
+   as at half a turn minus the angle; in the third and the fourth the answer is that at half a turn less, negated. So for every
+   angle, exactly: half a turn more negates the sine, half a turn minus the angle keeps it, and the negated angle negates it.
+   Refusals 1 to 9, then 11, 15; no angle is refused. */
 vp_worked vp_sine(const uint8_t *sheet, size_t length, uint16_t number, uint32_t angle);
 
 /* The cosine of an angle: the sine of the angle and a quarter more. So, exactly, the negated angle keeps it, and half a turn more

@@ -1,7 +1,7 @@
 /* Prints how far the library's sine lies from the true one at most, for each formula of a sheet, in steps of 2^-24 rounded up to
    1/100: at the argument that an angle is rounded to, and at the angle itself.
 
-   Every angle of the first quarter is looked at, that of a whole quarter among them, 2^30 + 1 in all. Each argument k is had from
+   Every angle of the first quarter counts, that of a whole quarter among them, 2^30 + 1 in all. Each argument k is had from
    the angles 64k - 32 to 64k + 31; the answer is the same for all of them, and the true sine rises through the quarter, so that it
    is furthest from the answer at the first or at the last of them. The other quarters, and the cosine, have the same answers and
    the same true values but for the sign, by symmetries of which the library's are proved, and so the same errors. */

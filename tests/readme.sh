@@ -1,6 +1,7 @@
 #!/usr/bin/env bash
 # The README's commands print what it shows: the listed sheet, the formula that is asked, the sines, and from a typed formula to its
-# answers, which are the paper's. What it and the other pages link to, and the folders that it names, are there.
+# answers, which are the paper's. What it and the other pages link to, and the folders that it names, are there; and CHANGELOG.md
+# tells of the version.
 set -u
 cd "$(dirname "$0")/.." || exit 2
 . tests/lib.sh
@@ -25,6 +26,7 @@ shows 'cat mine.txt' 'sheets/make.py mine.txt --out desk' './valvepigeon ask des
 right 'both ways to the sheet' cmp desk/desk.sheet "$root/target/desk.sheet"
 
 cd "$root" || exit 2
+right "CHANGELOG.md names the header's version" grep -qF "$(sed -nE 's/^#define VP_VERSION_STRING "(.*)"/ \1/p' include/valvepigeon.h)" CHANGELOG.md
 for page in README.md CHANGELOG.md docs/*.md docs/landings/*.md sheets/README.md; do
     for to in $(grep -oP '\]\(\K[^)#]+' "$page"); do right "$page links to $to" test -e "$(dirname "$page")/$to"; done
 done

@@ -1,7 +1,7 @@
 #!/usr/bin/env bash
 # The statements say enough: no public function of the library's face asks anything of its caller or states nothing, every public
-# definition is named by an example, a law or a promise, sine and cosine stand on the statements below them, and nothing is assumed but the
-# contracts of the C calls read and write.
+# definition is named by an example, a law or a promise, sine and cosine stand on the statements below them, and nothing is assumed
+# but the contracts of the C calls read and write.
 set -u
 cd "$(dirname "$0")/.." || exit 2
 . tests/lib.sh
@@ -16,8 +16,8 @@ count() { # WORD
 count contracts
 count named
 
-# `turn` sees what is below it through statements alone: the one definition that its proofs open is its own.
-is "what turn's proofs open" "$(grep -rhoP '^ *unfolding \K.*' crates/turn/proofs | tr ' ' '\n' | sort -u)" spanFault
+# `turn` sees what is below it through statements alone: the one definition that its proofs unfold is its own.
+is "what turn's proofs unfold" "$(grep -rhoP '^ *unfolding \K.*' crates/turn/proofs | tr ' ' '\n' | sort -u)" spanFault
 
 # No crate of ours may declare a C call, so only one that stands on a library of the kit can reach any: that is the program alone.
 outside() {

@@ -20,7 +20,7 @@ divided by 2^24. Every function takes any bytes; it gives its answer or raises
         ...
     valvepigeon.Refused: refused 10 at 0: ...
 
-An angle is a part of a turn, which has 2^32 of them: an eighth of a turn is
+An angle is a part of a turn, which has 2^32 of them; the sine of an eighth is
 
     >>> with open("sheets/sine-quarter.sheet", "rb") as file:
     ...     valvepigeon.sine(file.read(), 14, 2**32 // 8).word / 2**24
@@ -229,8 +229,8 @@ def evaluate_double(sheet: ReadableBuffer, number: int,
 
 
 def sine(sheet: ReadableBuffer, number: int, angle: int) -> Worked:
-    """The sine of an angle by an odd formula whose interval holds 0 to one, as
-    those for sin(pi x/2). Refusals 1 to 9, then 11, 15."""
+    """The sine of an angle, 0 to 2^32 - 1, by an odd formula whose interval
+    holds 0 to one, as those for sin(pi x/2). Refusals 1 to 9, then 11, 15."""
     return Worked(_lent("vp_sine", sheet, _u16(number), _u32(angle)).word)
 
 
