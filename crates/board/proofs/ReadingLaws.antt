@@ -1,4 +1,4 @@
--- From the place that the reader answers to what the board answers.
+-- From the place that the reader answers to what the board answers, and from a record's own fields to those of the formula in it.
 use Rattle.whole.proofs.Basics.{_≡_, refl, sym, ap, List, ℕ}
 use Rattle.formula.specs.declared.Formula.{Formula}
 use Rattle.layout.specs.Fields.{rowFor, loOf, hiOf, shapeOf, formulaOf}
@@ -23,7 +23,7 @@ module _ (s : ℕ) (bytes : List ℕ) (n : ℕ) where
     unfolding formulaRead
     when-refused q e = by-place (Absent q) (formulaPlace s bytes n) (sym e)
 
--- ---- what a record's own fields are of the formula in it
+-- ---- a record's own fields
 module _ (b : List ℕ) where
   pub kind-in : formulaIn b .shape .kind ≡ rowFor b .kind
   unfolding formulaOf shapeOf

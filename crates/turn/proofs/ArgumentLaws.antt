@@ -24,25 +24,25 @@ quarter-is s h =
     sym (pow-add 2 s (30 - s)) ∙ ap (λ (k : ℕ). 2 ^ k) e
 
 -- ---- what is not below 0 does not round below 0
-not-below : (a d : ℕ) (q : ℤ) → 0 < d → 2 * natAbs (q *ℤ pos d -ℤ pos a) ≤ d → pos 0 ≤ℤ q
-not-below a d (pos k) h e = pos-le (omega arith)
-not-below a d (negsuc k) h e = absurd (omega (arith, size (v (negsuc k) ⊗ n d ⊝ n a)))
+not-negative : (a d : ℕ) (q : ℤ) → 0 < d → 2 * natAbs (q *ℤ pos d -ℤ pos a) ≤ d → pos 0 ≤ℤ q
+not-negative a d (pos k) h e = pos-le (omega arith)
+not-negative a d (negsuc k) h e = absurd (omega (arith, size (v (negsuc k) ⊗ n d ⊝ n a)))
 
-module _ (s : ℕ) (scale : Scale s) (quarter f : ℕ) where
+module _ (s quarter f : ℕ) where
   abbrev parts : ℕ
   parts = 2 ^ (30 - s)
 
   pub argument-low : pos 0 ≤ℤ argumentIn s quarter f
-  argument-low = not-below (foldedIn quarter f) parts (argumentIn s quarter f) (pow-pos (30 - s)) (rounded-near (pos (foldedIn quarter f)) parts (pow-pos (30 - s)))
+  argument-low = not-negative (foldedIn quarter f) parts (argumentIn s quarter f) (pow-pos (30 - s)) (rounded-near (pos (foldedIn quarter f)) parts (pow-pos (30 - s)))
 
-  pub argument-size : f ≤ quarterTurn → natAbs (argumentIn s quarter f) ≤ unit s
-  argument-size h =
+  pub argument-size : Scale s → f ≤ quarterTurn → natAbs (argumentIn s quarter f) ≤ unit s
+  argument-size scale h =
       let d = pow-pos (30 - s) in
       let u = up-least (foldedIn quarter f) parts (unit s) d (omega (arith, folded-most quarter f h, quarter-is s scale)) in
       omega (arith, rounded-size (pos (foldedIn quarter f)) parts d, u)
 
-  pub argument-high : f ≤ quarterTurn → argumentIn s quarter f ≤ℤ pos (unit s)
-  argument-high h = below-by (argumentIn s quarter f) argument-low (argument-size h)
+  pub argument-high : Scale s → f ≤ quarterTurn → argumentIn s quarter f ≤ℤ pos (unit s)
+  argument-high scale h = below-by (argumentIn s quarter f) argument-low (argument-size scale h)
     where
       below-by : (x : ℤ) → pos 0 ≤ℤ x → natAbs x ≤ unit s → x ≤ℤ pos (unit s)
       below-by (pos k) l m = pos-le m

@@ -29,7 +29,7 @@ module _ (s : ℕ) (bytes : List ℕ) (n : ℕ) where
   f = formulaGiven s bytes n
 
   -- the board's answer, before its sign
-  abbrev plain : ℕ → ℕ → Evaluation
+  abbrev pub plain : ℕ → ℕ → Evaluation
   plain quarter rest = evaluated s bytes n (argumentIn s quarter rest)
 
   -- ---- the reader's refusals come first
@@ -44,7 +44,10 @@ module _ (s : ℕ) (bytes : List ℕ) (n : ℕ) where
       at (inl z) = absurd (other (sine-needs s f z))
       at (inr z) = ap (λ (t : ℕ). guard t refused (signedIn (quarterOf a) (plain (quarterOf a) (restOf a)))) z
 
-  -- ---- a sheet that has the sine
+  -- ---- a sheet that has the sine, which every sheet does whose formula has no fault
+  pub has-sine : HasFormula s bytes n → sineFault s f ≡ 0 → HasSine s bytes n
+  has-sine given none = (given, sine-needs s f none)
+
   module _ (has : HasSine s bytes n) where
     pub sine-given : (quarter rest : ℕ) → sineIn s bytes n quarter rest ≡ signedIn quarter (plain quarter rest)
     sine-given quarter rest = by-formula s bytes n (has .0) _ ∙ ap (λ (t : ℕ). guard t refused (signedIn quarter (plain quarter rest))) (sine-enough s f (has .1))
@@ -57,10 +60,10 @@ module _ (s : ℕ) (bytes : List ℕ) (n : ℕ) where
       own = answerOf s (f .shape) (wordsIn f) x
 
       pub argument-above : f .lo ≤ℤ x
-      argument-above = ≤ℤ-trans (has .1 .low) (argument-low s (given-scale s bytes n (has .0)) (quarterOf a) (restOf a))
+      argument-above = ≤ℤ-trans (has .1 .low) (argument-low s (quarterOf a) (restOf a))
 
       pub argument-below : x ≤ℤ f .hi
-      argument-below = ≤ℤ-trans (argument-high s (given-scale s bytes n (has .0)) (quarterOf a) (restOf a) (rest-most a)) (has .1 .high)
+      argument-below = ≤ℤ-trans (argument-high s (quarterOf a) (restOf a) (given-scale s bytes n (has .0)) (rest-most a)) (has .1 .high)
 
       pub every-angle : sineOf s bytes n a ≡ answered (withSign (ltb 1 (quarterOf a)) own)
       every-angle =

@@ -26,8 +26,8 @@ use Rattle.turn.specs.Angles.{halfTurn, quarterTurn, Angle, angleSum, an
 use Rattle.turn.specs.Sine.{sineFault, HasSine, signedBy, negated, sineIn, sineOf, cosineOf}
 use Rattle.turn.proofs.AngleLaws.{by-quarter, sum-angle, difference-angle, half-more-parts, half-minus-start, half-minus-inside, negated-angle, negated-quarter, half-quarter}
 use Rattle.turn.proofs.ArgumentLaws.{quarter-is}
-use Rattle.turn.proofs.FaultLaws.{or-fifteen, sine-needs}
-use Rattle.turn.proofs.EveryAngle.{sine-given}
+use Rattle.turn.proofs.FaultLaws.{or-fifteen}
+use Rattle.turn.proofs.EveryAngle.{plain, has-sine, sine-given}
 
 -- ---- negation: twice is none, and only 0 is its own
 negated-back : (e : Evaluation) → negated (negated e) ≡ e
@@ -58,10 +58,6 @@ module _ (s : ℕ) (bytes : List ℕ) (n : ℕ) where
   abbrev fault : ℕ
   fault = sineFault s (formulaGiven s bytes n)
 
-  -- the board's answer, before its sign
-  abbrev plain : ℕ → ℕ → Evaluation
-  plain quarter f = evaluated s bytes n (argumentIn s quarter f)
-
   -- ---- a sheet that has the sine
   module _ (has : HasSine s bytes n) where
     zero-answer : evaluated s bytes n (pos 0) ≡ answered (pos 0)
@@ -73,7 +69,7 @@ module _ (s : ℕ) (bytes : List ℕ) (n : ℕ) where
         e ∙ ap answered (sym w ∙ own-negation _ w)
 
     pub sine-of-zero : sineOf s bytes n 0 ≡ answered (pos 0)
-    sine-of-zero = sine-given s bytes n has 0 0 ∙ plainly (plain 0 0) ∙ ap (evaluated s bytes n) (own-negation _ (rounded-odd (pos 0) (2 ^ (30 - s)))) ∙ zero-answer
+    sine-of-zero = sine-given s bytes n has 0 0 ∙ plainly (plain s bytes n 0 0) ∙ ap (evaluated s bytes n) (own-negation _ (rounded-odd (pos 0) (2 ^ (30 - s)))) ∙ zero-answer
 
     one-argument : argumentIn s 1 0 ≡ pos (unit s)
     one-argument =
@@ -81,7 +77,7 @@ module _ (s : ℕ) (bytes : List ℕ) (n : ℕ) where
         ∙ rounded-exact (pos (unit s)) (2 ^ (30 - s)) (pow-pos (30 - s))
 
     pub sine-of-quarter : sineOf s bytes n quarterTurn ≡ evaluated s bytes n (pos (unit s))
-    sine-of-quarter = sine-given s bytes n has 1 0 ∙ plainly (plain 1 0) ∙ ap (evaluated s bytes n) one-argument
+    sine-of-quarter = sine-given s bytes n has 1 0 ∙ plainly (plain s bytes n 1 0) ∙ ap (evaluated s bytes n) one-argument
 
     pub cosine-of-zero : cosineOf s bytes n 0 ≡ evaluated s bytes n (pos (unit s))
     cosine-of-zero = sine-of-quarter
@@ -96,7 +92,7 @@ module _ (s : ℕ) (bytes : List ℕ) (n : ℕ) where
       let p = half-more-parts a h in
       ap₂ (sineIn s bytes n) (p .0) (p .1)
       ∙ by-quarter (λ (q : ℕ). sineIn s bytes n ((q + 2) % 4) f ≡ negated (sineIn s bytes n q f))
-      (opposite (plain 0 f)) (opposite (plain 1 f)) (back (plain 0 f)) (back (plain 1 f)) a h
+      (opposite (plain s bytes n 0 f)) (opposite (plain s bytes n 1 f)) (back (plain s bytes n 0 f)) (back (plain s bytes n 1 f)) a h
     where
       back : (e : Evaluation) → whenGiven found (guard fault refused (signedBy false e)) ≡ negated (whenGiven found (guard fault refused (negated e)))
       back e = sym (negated-back _) ∙ ap negated (sym (opposite e))
@@ -107,7 +103,7 @@ module _ (s : ℕ) (bytes : List ℕ) (n : ℕ) where
     where
       at : (a : Found) → found ≡ a → (fault ≡ 0) ⊎ (fault ≡ 15) → sineOf s bytes n halfTurn ≡ sineOf s bytes n 0
       at (Withheld r) e k = rw e
-      at Given e (inl z) = let q = sine-of-zero (ap foundNumber e, sine-needs s (formulaGiven s bytes n) z) in half-more 0 (omega arith) ∙ ap negated q ∙ sym q
+      at Given e (inl z) = let q = sine-of-zero (has-sine s bytes n (ap foundNumber e) z) in half-more 0 (omega arith) ∙ ap negated q ∙ sym q
       at Given e (inr z) = rw (e, z)
 
   pub half-minus : (a : ℕ) → Angle a → sineOf s bytes n (angleDifference halfTurn a) ≡ sineOf s bytes n a

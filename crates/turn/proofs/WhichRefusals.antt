@@ -12,8 +12,8 @@ use Rattle.board.proofs.AnswersInside.{formulaGiven}
 use Rattle.board.proofs.WhichRefusals.{AnswerOr}
 use Rattle.turn.specs.Angles.{quarterTurn, angleSum}
 use Rattle.turn.specs.Sine.{sineRefusals, sineFault, sineOf, cosineOf}
-use Rattle.turn.proofs.FaultLaws.{or-fifteen, sine-needs, sine-enough}
-use Rattle.turn.proofs.EveryAngle.{reader-first, fifteen, every-angle}
+use Rattle.turn.proofs.FaultLaws.{or-fifteen, sine-enough}
+use Rattle.turn.proofs.EveryAngle.{reader-first, fifteen, has-sine, every-angle}
 
 module _ (s : ℕ) (bytes : List ℕ) (n : ℕ) where
   abbrev f : Formula
@@ -25,7 +25,7 @@ module _ (s : ℕ) (bytes : List ℕ) (n : ℕ) where
 
     -- where the formula is given
     given : HasFormula s bytes n → (sineFault s f ≡ 0) ⊎ (sineFault s f ≡ 15) → AnswerOr sineRefusals answer
-    given g (inl z) = inl (_, every-angle s bytes n (g, sine-needs s f z) a)
+    given g (inl z) = inl (_, every-angle s bytes n (has-sine s bytes n g z) a)
     given g (inr z) = inr (inl (ap evaluationNumber (fifteen s bytes n g (λ k. clash (sym (sine-enough s f k) ∙ z)) a)))
       where
         clash : _≡_ {A = ℕ} 0 15 → ⊥

@@ -1,8 +1,9 @@
--- An angle is a part of a turn, in parts of which a whole turn has 2^32. The binary places of the argument that it gives are s.
+-- An angle is counted in parts of a turn, 2^32 to the whole. The argument that it gives has s binary places.
 use mathlib.Core.Path.{_≡_, refl}
 use mathlib.Core.Bool.{cond}
 use Prim.Native.Nat.{ℕ, _+_, _-_, _/_, _%_, _^_, _<_}
-use lib.Dec.{eqb}
+use native.Mathlib.Omega.{arith}
+use lib.Dec.{eqb, lit≤}
 use lib.IntN.{ℤ, pos}
 use Rattle.word.specs.Rounded.{rounded}
 
@@ -44,13 +45,20 @@ argumentIn s quarter f = rounded (pos (foldedIn quarter f)) (2 ^ (30 - s))
 abbrev pub argumentOf : ℕ → ℕ → ℤ
 argumentOf s a = argumentIn s (quarterOf a) (restOf a)
 
--- ---- worked examples. The first and the last angle of each quarter
+-- ---- worked examples. The turn and its parts; the last angle, and the number beyond it
+turns : (wholeTurn ≡ 0x100000000) × (halfTurn ≡ 0x80000000) × (quarterTurn ≡ 0x40000000)
+turns = (refl, refl, refl)
+
+last-angle : Angle 0xffffffff × (Angle 0x100000000 → ⊥)
+last-angle = (lit≤ tt, λ h. omega arith)
+
+-- the first and the last angle of each quarter
 quarters :
     ((quarterOf 0 ≡ 0) × (restOf 0 ≡ 0) × (quarterOf 0x3fffffff ≡ 0) × (restOf 0x3fffffff ≡ 0x3fffffff))
     × ((quarterOf 0x40000000 ≡ 1) × (restOf 0x40000000 ≡ 0) × (quarterOf 0x7fffffff ≡ 1) × (restOf 0x7fffffff ≡ 0x3fffffff))
-    × ((quarterOf 0x80000000 ≡ 2) × (restOf 0x80000000 ≡ 0) × (quarterOf 0xbfffffff ≡ 2))
-    × ((quarterOf 0xc0000000 ≡ 3) × (restOf 0xc0000000 ≡ 0) × (quarterOf 0xffffffff ≡ 3))
-quarters = ((refl, refl, refl, refl), (refl, refl, refl, refl), (refl, refl, refl), (refl, refl, refl))
+    × ((quarterOf 0x80000000 ≡ 2) × (restOf 0x80000000 ≡ 0) × (quarterOf 0xbfffffff ≡ 2) × (restOf 0xbfffffff ≡ 0x3fffffff))
+    × ((quarterOf 0xc0000000 ≡ 3) × (restOf 0xc0000000 ≡ 0) × (quarterOf 0xffffffff ≡ 3) × (restOf 0xffffffff ≡ 0x3fffffff))
+quarters = ((refl, refl, refl, refl), (refl, refl, refl, refl), (refl, refl, refl, refl), (refl, refl, refl, refl))
 
 -- f in each quarter: 5 parts on, and none
 folds :
@@ -58,15 +66,17 @@ folds :
     × ((foldedIn 0 0 ≡ 0) × (foldedIn 1 0 ≡ 1073741824) × (foldedIn 2 0 ≡ 0) × (foldedIn 3 0 ≡ 1073741824))
 folds = ((refl, refl, refl, refl), (refl, refl, refl, refl))
 
--- arguments at 24 places, 64 parts to a step: just under a half step, a half step, which goes up, and just under one and a half; a quarter turn is one,
--- and half a step on either side of it too; then one less. Half a turn is 0
+-- arguments at 24 places, 64 parts to a step. Just under half a step and half a step, which goes up; just under one and a half, and that. Towards a quarter
+-- turn, which is one: more than half a step from it, half a step, and itself; behind it half a step, and more. Half a turn is 0, and just under half a step
+-- and half a step behind it; three quarters are one, and the last angle is 0
 arguments :
     ((argumentOf 24 31 ≡ pos 0) × (argumentOf 24 32 ≡ pos 1) × (argumentOf 24 95 ≡ pos 1) × (argumentOf 24 96 ≡ pos 2))
     × ((argumentOf 24 0x3fffffdf ≡ pos 16777215) × (argumentOf 24 0x3fffffe0 ≡ pos 16777216) × (argumentOf 24 0x40000000 ≡ pos 16777216))
-    × ((argumentOf 24 0x40000020 ≡ pos 16777216) × (argumentOf 24 0x40000021 ≡ pos 16777215) × (argumentOf 24 0x80000000 ≡ pos 0))
-    × ((argumentOf 24 0x8000001f ≡ pos 0) × (argumentOf 24 0x80000020 ≡ pos 1) × (argumentOf 24 0xc0000000 ≡ pos 16777216) × (argumentOf 24 0xffffffff ≡ pos 0))
+    × ((argumentOf 24 0x40000020 ≡ pos 16777216) × (argumentOf 24 0x40000021 ≡ pos 16777215))
+    × ((argumentOf 24 0x80000000 ≡ pos 0) × (argumentOf 24 0x8000001f ≡ pos 0) × (argumentOf 24 0x80000020 ≡ pos 1))
+    × ((argumentOf 24 0xc0000000 ≡ pos 16777216) × (argumentOf 24 0xffffffff ≡ pos 0))
 unfolding rounded
-arguments = ((refl, refl, refl, refl), (refl, refl, refl), (refl, refl, refl), (refl, refl, refl, refl))
+arguments = ((refl, refl, refl, refl), (refl, refl, refl), (refl, refl), (refl, refl, refl), (refl, refl))
 
 -- at 16 places a step has 2^14 parts, at 28 it has 4; a quarter turn is one at each
 other-places :

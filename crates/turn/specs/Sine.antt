@@ -46,7 +46,7 @@ pub record ForSine (s : ℕ) (f : Formula) : Type 0 where
   pub low : f .lo ≤ℤ pos 0
   pub high : pos (unit s) ≤ℤ f .hi
 
--- the sheet is accepted and has one of the number n
+-- the sheet is accepted, and its formula n is for sine and cosine
 abbrev pub HasSine : ℕ → List ℕ → ℕ → Type 0
 HasSine s bytes n = HasFormula s bytes n × ForSine s (formulaRead s bytes n .formula)
 
@@ -76,7 +76,11 @@ sineOf s bytes n a = sineIn s bytes n (quarterOf a) (restOf a)
 abbrev pub cosineOf : ℕ → List ℕ → ℕ → ℕ → Evaluation
 cosineOf s bytes n a = sineOf s bytes n (angleSum a quarterTurn)
 
--- ---- worked examples. 15 by the kind; and by the interval, at both ends of 0 to one, at 24 places and at 16 and 28
+-- ---- worked examples. The refusals, 10 not among them
+the-refusals : sineRefusals ≡ 15 ∷ 11 ∷ 9 ∷ 1 ∷ 2 ∷ 3 ∷ 4 ∷ 5 ∷ 6 ∷ 7 ∷ 8 ∷ []
+the-refusals = refl
+
+-- 15 by the kind; and by the interval, at both ends of 0 to one, at 24 places and at 16 and 28
 by-kind :
     (oddFault Polynomial ≡ 15)
     × (oddFault Rational ≡ 15)
@@ -108,13 +112,13 @@ signs :
     × (signedIn 3 (refused 11) ≡ refused 11)
 signs = (refl, refl, refl, refl, refl)
 
--- 15 stands before the answer, at place 0: 0 to one, then from one step above 0; the kind even on an interval that would do
+-- the answer, or 15 at place 0: on 0 to 16777216, on an interval from one step above 0, and of the kind even
 abbrev over : Kind → ℤ → Formula
 over kind lo = formula 5 (shape kind 1 0 0) lo (pos 16777216) []
 
-fifteen-first :
+answer-or-fifteen :
     (sineBy 24 (over Odd (pos 0)) 0 (answered (pos 3)) ≡ answered (pos 3))
     × (sineBy 24 (over Odd (pos 1)) 0 (answered (pos 3)) ≡ Refused (refusal 0 15))
     × (sineBy 24 (over Even (pos 0)) 2 (answered (pos 3)) ≡ Refused (refusal 0 15))
 unfolding spanFault
-fifteen-first = (refl, refl, refl)
+answer-or-fifteen = (refl, refl, refl)

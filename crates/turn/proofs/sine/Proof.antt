@@ -5,6 +5,7 @@ use Rattle.sheet.specs.Reader.{formulaPlace, formulaAt, formulaRead, FormulaSta
 use Rattle.sheet.specs.declared.answers.Found.{Found}
 use Rattle.sheet.specs.declared.answers.Found.the-variants.{Given, Refused as Withheld}
 use Rattle.sheet.specs.declared.answers.Place.the-variants.{At}
+use Rattle.sheet.specs.declared.answers.Reading.{Reading}
 use Rattle.sheet.proofs.Places.{place-standing}
 use Rattle.answering.specs.Answering.{answerAt}
 use Rattle.answering.specs.declared.answers.Evaluation.{Evaluation}
@@ -15,19 +16,29 @@ use Rattle.turn.specs.Sine.{sineBy, sineOf}
 use Rattle.turn.proofs.sine.Statement.{statement}
 use Rattle.turn.proofs.sine.Tie as tie
 
--- what a formula answers to the angle
+-- what a formula answers at the angle's argument, and the sine by it
 module _ (d : tie.Start) where
   abbrev bytes : List ℕ
   bytes = now (d .args .s)
 
-  abbrev answer : Formula → Evaluation
-  answer f = sineBy (d .args .places) f (quarterOf (d .args .angle)) (answerAt (d .args .places) f (argumentOf (d .args .places) (d .args .angle)))
+  -- the sine by a formula whose answer at the argument is e
+  abbrev signed-from : Formula → Evaluation → Evaluation
+  signed-from f e = sineBy (d .args .places) f (quarterOf (d .args .angle)) e
 
-  -- where the formula is given, the board's answer is the formula's
-  as-board : let r = formulaRead (d .args .places) bytes (d .args .number) in whenGiven (r .found) (answer (r .formula)) ≡ sineOf (d .args .places) bytes (d .args .number) (d .args .angle)
-  as-board = let r = formulaRead (d .args .places) bytes (d .args .number) in by (r .found) (r .formula)
+  abbrev own : Formula → Evaluation
+  own f = answerAt (d .args .places) f (argumentOf (d .args .places) (d .args .angle))
+
+  abbrev sine-by : Formula → Evaluation
+  sine-by f = signed-from f (own f)
+
+  abbrev r : Reading
+  r = formulaRead (d .args .places) bytes (d .args .number)
+
+  -- where the formula is given, the board's answer is the formula's own
+  as-board : whenGiven (r .found) (sine-by (r .formula)) ≡ sineOf (d .args .places) bytes (d .args .number) (d .args .angle)
+  as-board = by (r .found) (r .formula)
     where
-      by : (a : Found) (f : Formula) → whenGiven a (answer f) ≡ whenGiven a (sineBy (d .args .places) f (quarterOf (d .args .angle)) (whenGiven a (answerAt (d .args .places) f (argumentOf (d .args .places) (d .args .angle)))))
+      by : (a : Found) (f : Formula) → whenGiven a (sine-by f) ≡ whenGiven a (signed-from f (whenGiven a (own f)))
       by Given f = refl
       by (Withheld q) f = refl
 
@@ -52,14 +63,14 @@ returns : tie.Need-returns
 returns c =
     let k = c .before .before in
     let d = start k in
-    let here : c .sine-of .result ≡ answer d (formulaAt (bytes d) (k .before .place .given .0 .0)) = rw (c .before .record-at .ensures) at (c .sine-of .ensures) in
-    here ∙ when-at (d .args .places) (bytes d) (d .args .number) (answer d) _ (found k) ∙ as-board d
+    let here : c .sine-of .result ≡ sine-by d (formulaAt (bytes d) (k .before .place .given .0 .0)) = rw (c .before .record-at .ensures) at (c .sine-of .ensures) in
+    here ∙ when-at (d .args .places) (bytes d) (d .args .number) (sine-by d) _ (found k) ∙ as-board d
 
 returns-2 : tie.Need-returns-2
 returns-2 c =
     let p = c .before in
     let d = p .before .before .before .before in
-    when-refused (d .args .places) (bytes d) (d .args .number) (answer d) _ (sym (p .before .before .formula-place .ensures) ∙ p .r .given .1) ∙ as-board d
+    when-refused (d .args .places) (bytes d) (d .args .number) (sine-by d) _ (sym (p .before .before .formula-place .ensures) ∙ p .r .given .1) ∙ as-board d
 
 pub sine-spec : {M : Type 1} → statement M
 sine-spec =

@@ -31,8 +31,8 @@ module _ (d : tie.Start) where
       let s = d .args .s in
       let a = d .args .angle in
       let k = sine-needs s f e in
-      let l = ≤ℤ-trans (k .low) (argument-low s (d .pre .0) (quarterOf a) (restOf a)) in
-      let h = ≤ℤ-trans (argument-high s (d .pre .0) (quarterOf a) (restOf a) (rest-most a)) (k .high) in
+      let l = ≤ℤ-trans (k .low) (argument-low s (quarterOf a) (restOf a)) in
+      let h = ≤ℤ-trans (argument-high s (quarterOf a) (restOf a) (d .pre .0) (rest-most a)) (k .high) in
       subst (λ (e : Evaluation). Word (evaluationWord e)) (inside s f x l h) (odd-word s f x (k .odd) (answerable s f x l h (d .pre .0) (fit s (now (d .args .b)) (d .pre .1))))
 
 returns : tie.Need-returns

@@ -24,8 +24,12 @@ module _ (c : tie.After-power-of-two) where
 above : (d : tie.Start) (t : Bool) → ltZ (pos 0) (back w32 (d .args .lo)) ≡ t → ltZ (pos 0) (d .args .lo) ≡ t
 above d t e = rw (toZ-ofZ (d .fits .lo)) at e
 
-below : (c : tie.After-power-of-two) (t : Bool) → ltZ (back w32 (c .before .before .args .hi)) (back w32 (pos (one c))) ≡ t → ltZ (c .before .before .args .hi) (pos (unit (c .before .before .args .s))) ≡ t
-below c t e = rw (toZ-ofZ (c .before .before .fits .hi), held (held-one c), c .power-of-two .ensures) at e
+module _ (c : tie.After-power-of-two) where
+  abbrev start : tie.Start
+  start = c .before .before
+
+  below : (t : Bool) → ltZ (back w32 (start .args .hi)) (back w32 (pos (one c))) ≡ t → ltZ (start .args .hi) (pos (unit (start .args .s))) ≡ t
+  below t e = rw (toZ-ofZ (start .fits .hi), held (held-one c), c .power-of-two .ensures) at e
 
 returns : tie.Need-returns
 unfolding spanFault

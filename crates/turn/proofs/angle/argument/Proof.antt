@@ -36,7 +36,7 @@ module _ (c : tie.After-rounded-shift) where
   size : natAbs (argumentOf (start .args .s) (start .args .angle)) ≤ 2 ^ 28
   size =
       let b = start .args .angle in
-      omega (arith, argument-size (start .args .s) (start .pre) (quarterOf b) (restOf b) (rest-most b), pow-mono {i = start .args .s} {j = 28} (start .pre .most))
+      omega (arith, argument-size (start .args .s) (quarterOf b) (restOf b) (start .pre) (rest-most b), pow-mono {i = start .args .s} {j = 28} (start .pre .most))
 
   held-argument : Held w32 (back w64 (c .rounded-shift .result)) (argumentOf (start .args .s) (start .args .angle))
   held-argument = cast (known is-argument (fit-abs (omega (arith, size)))) (fit-abs (omega (arith, size)))
