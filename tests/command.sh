@@ -130,7 +130,7 @@ gives 2 '' "cosine: '1.5' is no angle" cosine odd.sheet 5 0 1.5
 for bad in 65536 -1 one ''; do gives 2 '' 'number' sine odd.sheet "$bad" 0; done
 gives 2 '' 'is no option' cosine odd.sheet 5 0 --loud
 gives 2 '' "ANGLE is missing; $see sine" sine odd.sheet 5
-gives 2 '' "$see cosine" cosine odd.sheet
+gives 2 '' "a formula's number and angles; $see cosine" cosine odd.sheet
 
 # ---- a name stays on one line, whatever it is
 odd=$'a: ok, 1 formula\n\e[1mb' shown='a: ok, 1 formula??[1mb'
