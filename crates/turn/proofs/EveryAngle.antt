@@ -19,8 +19,8 @@ use Rattle.answering.specs.declared.answers.Evaluation.the-variants.{Refused}
 use Rattle.answering.proofs.IntervalLaws.{answerable}
 use Rattle.board.specs.Board.{whenGiven, evaluated}
 use Rattle.board.proofs.AnswersInside.{formulaGiven, by-formula, answers-inside, odd-word}
-use Rattle.turn.specs.Angles.{quarterOf, restOf, argumentIn, argumentOf}
-use Rattle.turn.specs.Sine.{sineFault, ForSine, HasSine, signedIn, sineBy, sineIn, sineOf}
+use Rattle.turn.specs.Angles.{quarterTurn, angleSum, quarterOf, restOf, argumentIn, argumentOf}
+use Rattle.turn.specs.Sine.{sineFault, ForSine, HasSine, signedIn, sineBy, sineIn, sineOf, cosineOf}
 use Rattle.turn.proofs.ArgumentLaws.{rest-most, argument-low, argument-high}
 use Rattle.turn.proofs.FaultLaws.{or-fifteen, sine-needs, sine-enough}
 
@@ -74,3 +74,14 @@ module _ (s : ℕ) (bytes : List ℕ) (n : ℕ) where
       sine-word =
           let k = answerable s f x argument-above argument-below (given-scale s bytes n (has .0)) (given-fits s bytes n (has .0) .0) in
           rw every-angle (omega (arith, sign-abs (ltb 1 (quarterOf a)) own, odd-word s f x (has .1 .odd) k))
+
+    -- ---- and so of cosine
+    module _ (a : ℕ) where
+      abbrev later : ℕ
+      later = angleSum a quarterTurn
+
+      pub every-cosine : cosineOf s bytes n a ≡ answered (withSign (ltb 1 (quarterOf later)) (answerOf s (f .shape) (wordsIn f) (argumentOf s later)))
+      every-cosine = every-angle later
+
+      pub cosine-word : Word (evaluationWord (cosineOf s bytes n a))
+      cosine-word = sine-word later

@@ -1,7 +1,6 @@
-// From an angle to its formula's argument.
+// An angle's quarter, and how far it is into it.
 ghost use mathlib.Core.Path.{_≡_};
-ghost use Rattle.word.specs.Words.{Scale};
-ghost use Rattle.turn.specs.Angles.{quarterOf, restOf, foldedIn, argumentOf};
+ghost use Rattle.turn.specs.Angles.{quarterOf, restOf, foldedIn};
 
 // An angle is a 32-bit part of a turn; this is a quarter of one.
 pub const QUARTER: u32 = 0x4000_0000;
@@ -14,7 +13,7 @@ pub fn quarter(angle: u32) -> u32
 }
 
 // f, the other 30 bits, and 2^30 - f in quarters 1 and 3.
-fn folded(angle: u32) -> u32
+pub fn folded(angle: u32) -> u32
     ensures { λ r. ⌜ r ≡ foldedIn (quarterOf angle) (restOf angle) ⌝ }
 {
     let f = angle % QUARTER;
@@ -23,12 +22,4 @@ fn folded(angle: u32) -> u32
     } else {
         f
     }
-}
-
-// f / 2^(30 - s), rounded as a product is: a quarter turn is one.
-pub fn argument(angle: u32, s: u32) -> i32
-    requires { ⌜ Scale s ⌝ }
-    ensures { λ r. ⌜ r ≡ argumentOf s angle ⌝ }
-{
-    word::rounded_shift(folded(angle) as i64, 30 - s) as i32
 }

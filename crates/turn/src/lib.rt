@@ -57,6 +57,14 @@ fn sine_fault(b: &[u8], s: u32) -> u8
     span_fault(layout::lo(b), layout::hi(b), s)
 }
 
+// f / 2^(30 - s), rounded as a product is: a quarter turn is one.
+fn argument(angle: u32, s: u32) -> i32
+    requires { ⌜ Scale s ⌝ }
+    ensures { λ r. ⌜ r ≡ argumentOf s angle ⌝ }
+{
+    word::rounded_shift(angle::folded(angle) as i64, 30 - s) as i32
+}
+
 // The answer, negated where the sign is set.
 fn signed(e: Evaluation, sign: bool) -> Evaluation
     requires { ⌜ Word (evaluationWord e) ⌝ }
@@ -79,7 +87,7 @@ fn sine_of(b: &[u8], angle: u32, s: u32) -> Evaluation
     if f != 0 {
         return answering::refused(f);
     }
-    let e = answering::answer_of(b, angle::argument(angle, s), s);
+    let e = answering::answer_of(b, argument(angle, s), s);
     signed(e, 1 < angle::quarter(angle))
 }
 

@@ -1,4 +1,4 @@
--- `turn::angle::argument` meets its contract: f is divided by a shift that rounds, and what it gives is at most one.
+-- `turn::argument` meets its contract: f is divided by a shift that rounds, and what it gives is at most one.
 use Rattle.whole.proofs.Basics.{_≡_, _∙_, ap, ℕ, _-_, _^_, _≤_, arith, ℤ, pos, natAbs, w32, w64, needs}
 use lib.Pow.{pow-mono}
 use Rattle.whole.proofs.Diff.{n}
@@ -7,8 +7,8 @@ use Rattle.whole.proofs.Held.{back, Held, fits-code, held, held-nat, arg, known
 use Rattle.word.specs.Rounded.{rounded}
 use Rattle.turn.specs.Angles.{quarterTurn, quarterOf, restOf, argumentOf}
 use Rattle.turn.proofs.ArgumentLaws.{rest-most, folded-most, argument-size}
-use Rattle.turn.proofs.angle.argument.Statement.{statement}
-use Rattle.turn.proofs.angle.argument.Tie as tie
+use Rattle.turn.proofs.argument.Statement.{statement}
+use Rattle.turn.proofs.argument.Tie as tie
 
 -- ---- what is handed on, and what comes back
 module _ (c : tie.After-folded) where
