@@ -3,11 +3,12 @@ use Rattle.whole.proofs.Basics.{_≡_, _∙_, refl, sym, ap, Bool, true, false,
 use lib.Signed.{clashℤ}
 use Rattle.word.specs.Words.{Scale}
 use Rattle.formula.specs.declared.Formula.{Formula}
-use Rattle.formula.specs.Formula.{answerOf, Answerable}
+use Rattle.formula.specs.Formula.{workedOf, Answerable}
 use Rattle.layout.specs.Fields.{wordsIn}
 use Rattle.sheet.specs.Reader.{Fit}
-use Rattle.answering.specs.Answering.{refused, answered, answerAt}
+use Rattle.answering.specs.Answering.{refused, answerAt}
 use Rattle.answering.specs.declared.answers.Evaluation.{Evaluation}
+use Rattle.answering.specs.declared.answers.Evaluation.the-variants.{Answered}
 
 is-true : (b : Bool) → T b → b ≡ true
 is-true true t = refl
@@ -25,7 +26,7 @@ not-below {x} {y} h = is-false (ltZ x y) (λ t. clashℤ (record { lt = t }) h)
 
 module _ (s : ℕ) (f : Formula) (x : ℤ) where
   abbrev within : Evaluation
-  within = answered (answerOf s (f .shape) (wordsIn f) x)
+  within = Answered (workedOf s (f .shape) (wordsIn f) x)
 
   pub below-low : x <ℤ f .lo → refused 10 ≡ answerAt s f x
   unfolding answerAt

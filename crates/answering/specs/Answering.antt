@@ -8,14 +8,14 @@ use lib.Signed.{ltZ}
 use Rattle.word.specs.Rounded.{rounded}
 use Rattle.formula.specs.declared.Kind.the-variants.{Polynomial}
 use Rattle.formula.specs.declared.Formula.{Formula}
-use Rattle.formula.specs.Formula.{answerOf}
+use Rattle.formula.specs.Formula.{worked, workedOf}
 use Rattle.polynomial.specs.Polynomial.{horner}
 use Rattle.layout.specs.Fields.{shape, padded, formula, wordsIn}
 use Rattle.faults.specs.Guard.{refusal}
 use Rattle.answering.specs.declared.answers.Evaluation.{Evaluation}
 use Rattle.answering.specs.declared.answers.Evaluation.the-variants.{Answered, Refused}
 
--- ---- the paper's number, place and word of each case; 0 where there is none
+-- ---- the paper's number, place, word and steps of each case; 0 where there is none
 abbrev pub evaluationNumber : Evaluation → ℕ
 evaluationNumber (Answered w) = 0
 evaluationNumber (Refused r) = r .number
@@ -28,19 +28,23 @@ abbrev pub evaluationWord : Evaluation → ℤ
 evaluationWord (Answered w) = w .word
 evaluationWord (Refused r) = pos 0
 
+abbrev pub evaluationSteps : Evaluation → ℕ
+evaluationSteps (Answered w) = w .steps
+evaluationSteps (Refused r) = 0
+
 -- 10 to 13 give place 0
 abbrev pub refused : ℕ → Evaluation
 refused number = Refused (refusal 0 number)
 
-abbrev pub answered : ℤ → Evaluation
-answered w = Answered (record { word = w })
+abbrev pub answered : ℤ → ℕ → Evaluation
+answered w n = Answered (worked w n)
 
--- ---- argument outside lo..hi, both ends inside (10), else the kind's own answer
+-- ---- argument outside lo..hi, both ends inside (10), else the kind's own answer, and its steps
 unfoldable pub answerAt : ℕ → Formula → ℤ → Evaluation
 answerAt s f x =
     cond (ltZ x (f .lo)) (refused 10)
     (cond (ltZ (f .hi) x) (refused 10)
-    (answered (answerOf s (f .shape) (wordsIn f) x)))
+    (Answered (workedOf s (f .shape) (wordsIn f) x)))
 
 -- ---- worked examples: the constant 3, over -1 step to 1 step: both ends, and one step outside each
 abbrev pub constant : Formula
@@ -48,8 +52,8 @@ constant = formula 1 (shape Polynomial 1 0 0) (negsuc 0) (pos 1) (padded (pos 50
 
 constant-ends :
     (answerAt 24 constant (negsuc 1) ≡ refused 10)
-    × (answerAt 24 constant (negsuc 0) ≡ answered (pos 50331648))
-    × (answerAt 24 constant (pos 1) ≡ answered (pos 50331648))
+    × (answerAt 24 constant (negsuc 0) ≡ answered (pos 50331648) 0)
+    × (answerAt 24 constant (pos 1) ≡ answered (pos 50331648) 0)
     × (answerAt 24 constant (pos 2) ≡ refused 10)
 unfolding answerAt horner rounded padded
 constant-ends = (refl, refl, refl, refl)

@@ -1,7 +1,7 @@
 // One formula at one argument: its answer inside its interval, or 10 outside it.
 ghost use mathlib.Core.Path.{_≡_};
 ghost use Rattle.word.specs.Words.{Scale};
-ghost use Rattle.formula.specs.Formula.{answerOf, Answerable};
+ghost use Rattle.formula.specs.Formula.{workedOf, Answerable};
 ghost use Rattle.table.specs.declared.Class.the-variants.{FormulaRecord};
 ghost use Rattle.layout.specs.Fields.{rowFor, shapeOf, wordsOf};
 ghost use Rattle.records.specs.Sheets.{RecordOf, FormulaBytes};
@@ -11,8 +11,8 @@ ghost use Rattle.answering.specs.Answering.{refused, answerAt};
 pub mod answers;
 
 use answers::Evaluation;
-use answers::Worked;
 use faults::Refusal;
+use formula::Worked;
 
 pub fn refused(number: u8) -> Evaluation
     ensures { λ r. ⌜ r ≡ refused number ⌝ }
@@ -20,9 +20,9 @@ pub fn refused(number: u8) -> Evaluation
     Evaluation::Refused(Refusal { number, place: 0 })
 }
 
-fn word_at(b: &[u8], x: i32, s: u32) -> i32
+fn worked_at(b: &[u8], x: i32, s: u32) -> Worked
     requires { ⌜ RecordOf FormulaRecord (now b) × Answerable s (shapeOf (rowFor (now b)) (now b)) (wordsOf (rowFor (now b)) (now b)) x ⌝ }
-    ensures { λ r. ⌜ r ≡ answerOf s (shapeOf (rowFor (now (b .entry))) (now (b .entry))) (wordsOf (rowFor (now (b .entry))) (now (b .entry))) x ⌝ }
+    ensures { λ r. ⌜ r ≡ workedOf s (shapeOf (rowFor (now (b .entry))) (now (b .entry))) (wordsOf (rowFor (now (b .entry))) (now (b .entry))) x ⌝ }
 {
     let row = table::row_of(layout::code(b));
     formula::answer(b, row.head, layout::shape_of(b, row), x, s)
@@ -39,6 +39,5 @@ pub fn answer_of(b: &[u8], x: i32, s: u32) -> Evaluation
     if layout::hi(b) < x {
         return refused(10);
     }
-    let word = word_at(b, x, s);
-    Evaluation::Answered(Worked { word })
+    Evaluation::Answered(worked_at(b, x, s))
 }

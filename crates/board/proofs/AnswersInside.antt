@@ -1,4 +1,4 @@
--- Demand 3: a formula in an accepted sheet answers every argument in its own interval, by its kind's rule, and refuses every other by 10.
+-- Demand 3: a formula in an accepted sheet answers every argument in its own interval, by its kind's rule and with its steps, and refuses every other by 10.
 -- `HasFormula s bytes n` says that the sheet is accepted and has a formula numbered n (`found-exactly` of the reader's promises).
 use Rattle.whole.proofs.Basics.{_≡_, _∙_, refl, sym, ap, subst, _⊎_, inl, inr, List, ℕ, ℤ, _≤ℤ_, _<ℤ_}
 use Rattle.word.specs.Words.{Word, NotZero}
@@ -6,14 +6,15 @@ use Rattle.word.specs.Lists.{All}
 use Rattle.formula.specs.declared.Formula.{Formula}
 use Rattle.formula.specs.declared.Kind.{Kind}
 use Rattle.formula.specs.declared.Kind.the-variants.{Odd}
-use Rattle.formula.specs.Formula.{answerOf, answerBy, numbersOf, numbersBy, divisorsOf, Answerable}
+use Rattle.formula.specs.Formula.{answerOf, answerBy, workedOf, numbersOf, numbersBy, divisorsOf, Answerable}
 use Rattle.formula.proofs.StaysInRange.{formula-stays}
 use Rattle.layout.specs.Fields.{wordsIn}
 use Rattle.sheet.specs.Reader.{formulaRead, HasFormula}
 use Rattle.sheet.specs.declared.answers.Found.{Found}
 use Rattle.sheet.proofs.FormulasGiven.{given-scale, given-fits, given-found}
-use Rattle.answering.specs.Answering.{evaluationNumber, evaluationPlace, refused, answered, answerAt}
+use Rattle.answering.specs.Answering.{evaluationNumber, evaluationPlace, refused, answerAt}
 use Rattle.answering.specs.declared.answers.Evaluation.{Evaluation}
+use Rattle.answering.specs.declared.answers.Evaluation.the-variants.{Answered}
 use Rattle.answering.proofs.IntervalLaws.{below-low, above-high, inside, answerable}
 use Rattle.board.specs.Board.{whenGiven, evaluated}
 
@@ -41,7 +42,7 @@ module _ (s : ℕ) (bytes : List ℕ) (n : ℕ) (given : HasFormula s bytes n) w
   refuses-outside x (inr h) = rw (refuses-above x h) (refl, refl)
 
   module _ (x : ℤ) (l : f .lo ≤ℤ x) (h : x ≤ℤ f .hi) where
-    pub answers-inside : evaluated s bytes n x ≡ answered (answerOf s (f .shape) (wordsIn f) x)
+    pub answers-inside : evaluated s bytes n x ≡ Answered (workedOf s (f .shape) (wordsIn f) x)
     answers-inside = by-formula (answerAt s f x) ∙ sym (inside s f x l h)
 
     -- and no rounded product, quotient or sum on the way leaves the word range, nor is a divisor 0

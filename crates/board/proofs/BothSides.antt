@@ -1,9 +1,9 @@
 -- Promise: an odd formula of an accepted sheet answers at -x exactly the negated answer, and an even one the same, where both arguments lie in its
 -- interval: there the sheet's answer is the formula's own.
-use Rattle.whole.proofs.Basics.{_≡_, _∙_, sym, ap, List, ℕ, ℤ, negℤ, _≤ℤ_}
+use Rattle.whole.proofs.Basics.{_≡_, _∙_, sym, ap, ap₂, List, ℕ, ℤ, negℤ, _≤ℤ_}
 use Rattle.formula.specs.declared.Formula.{Formula}
 use Rattle.formula.specs.Parity.{OddFormula, EvenFormula}
-use Rattle.formula.proofs.BothSides.{formula-negated, formula-same}
+use Rattle.formula.proofs.BothSides.{formula-negated, formula-same, odd-steps, even-steps}
 use Rattle.layout.specs.Fields.{wordsIn}
 use Rattle.sheet.specs.Reader.{HasFormula}
 use Rattle.answering.specs.Answering.{answered, evaluationWord}
@@ -18,14 +18,14 @@ module _ (s : ℕ) (bytes : List ℕ) (n : ℕ) (given : HasFormula s bytes n) w
 
   -- at x and -x, both in its interval
   module _ (x : ℤ) (l : f .lo ≤ℤ x) (h : x ≤ℤ f .hi) (l′ : f .lo ≤ℤ negℤ x) (h′ : negℤ x ≤ℤ f .hi) where
-    pub sheet-negated : OddFormula (f .shape) (wordsIn f) → evaluated s bytes n (negℤ x) ≡ answered (negℤ (evaluationWord (evaluated s bytes n x)))
+    pub sheet-negated : OddFormula (f .shape) (wordsIn f) → evaluated s bytes n (negℤ x) ≡ answered (negℤ (evaluationWord (evaluated s bytes n x))) 0
     sheet-negated o =
         answers-inside s bytes n given (negℤ x) l′ h′
-        ∙ ap answered (formula-negated s (f .shape) (wordsIn f) x o)
-        ∙ ap (λ (e : Evaluation). answered (negℤ (evaluationWord e))) (sym (answers-inside s bytes n given x l h))
+        ∙ ap₂ answered (formula-negated s (f .shape) (wordsIn f) x o) (odd-steps s (f .shape) (wordsIn f) (negℤ x) o)
+        ∙ ap (λ (e : Evaluation). answered (negℤ (evaluationWord e)) 0) (sym (answers-inside s bytes n given x l h))
 
     pub sheet-same : EvenFormula (f .shape) (wordsIn f) → evaluated s bytes n (negℤ x) ≡ evaluated s bytes n x
     sheet-same e =
         answers-inside s bytes n given (negℤ x) l′ h′
-        ∙ ap answered (formula-same s (f .shape) (wordsIn f) x e)
+        ∙ ap₂ answered (formula-same s (f .shape) (wordsIn f) x e) (even-steps s (f .shape) (wordsIn f) (negℤ x) e ∙ sym (even-steps s (f .shape) (wordsIn f) x e))
         ∙ sym (answers-inside s bytes n given x l h)

@@ -3,5 +3,6 @@ pub mod ReadingLaws
 pub mod AnswersInside
 pub mod SheetDistance
 pub mod BothSides
+pub mod FewSteps
 pub mod WhichRefusals
 pub mod Settled

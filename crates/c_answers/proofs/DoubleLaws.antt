@@ -14,9 +14,9 @@ use Rattle.desk.specs.declared.answers.Interval.the-variants.{Between, Refused 
 use Rattle.c_answers.specs.Answers.{shown, spanned, ShownBy, Spans}
 
 pub shown-by : (s : ℕ) (e : Evaluation) (a : Shown) → ShownAs s e a → ShownBy s e (shown a)
-shown-by s (Answered w) (Value x) h = (refl, refl, h)
+shown-by s (Answered w) (Value x k) h = (refl, refl, h .0, h .1)
 shown-by s (Answered w) (NotShown r) h = absurd h
-shown-by s (Refused q) (Value x) h = absurd h
+shown-by s (Refused q) (Value x k) h = absurd h
 shown-by s (Refused q) (NotShown r) h = ap (λ (p : Refusal). shown (NotShown p)) h
 
 pub spans-by : (s : ℕ) (a : Found) (f : Formula) (i : Interval) → IntervalBy s a f i → Spans s a f (spanned i)

@@ -13,12 +13,12 @@ use Rattle.sheet.specs.declared.answers.FormulaCount.the-variants.{Refused as N
 use Rattle.sheet.specs.declared.answers.Found.{Found}
 use Rattle.sheet.specs.declared.answers.Found.the-variants.{Given, Refused as Withheld}
 use Rattle.sheet.specs.declared.answers.Reading.{Reading}
-use Rattle.answering.specs.Answering.{evaluationNumber, evaluationPlace, evaluationWord}
+use Rattle.answering.specs.Answering.{evaluationNumber, evaluationPlace, evaluationWord, evaluationSteps, answered}
 use Rattle.answering.specs.declared.answers.Evaluation.{Evaluation}
 use Rattle.answering.specs.declared.answers.Evaluation.the-variants.{Answered, Refused}
-use Rattle.desk.specs.Desk.{shownNumber, shownPlace, shownValue, intervalNumber, intervalPlace, intervalLow, intervalHigh}
+use Rattle.desk.specs.Desk.{shownNumber, shownPlace, shownValue, shownSteps, intervalNumber, intervalPlace, intervalLow, intervalHigh}
 use Rattle.desk.specs.declared.answers.Shown.{Shown}
-use Rattle.desk.specs.declared.answers.Shown.the-variants.{Refused as NotShown}
+use Rattle.desk.specs.declared.answers.Shown.the-variants.{Value, Refused as NotShown}
 use Rattle.desk.specs.declared.answers.Interval.{Interval}
 use Rattle.desk.specs.declared.answers.Interval.the-variants.{Refused as NoInterval}
 use Rattle.record_writer.specs.Answers.{writingNumber, writingPlace, writtenLength}
@@ -47,10 +47,10 @@ abbrev pub found : Reading → FoundFields
 found r = fieldsFound (r .found) (r .formula)
 
 abbrev pub worked : Evaluation → WorkedWord
-worked a = record { refused = evaluationNumber a; place = evaluationPlace a; word = evaluationWord a }
+worked a = record { refused = evaluationNumber a; place = evaluationPlace a; word = evaluationWord a; steps = evaluationSteps a }
 
 abbrev pub shown : Shown → ShownValue
-shown a = record { refused = shownNumber a; place = shownPlace a; value = shownValue a }
+shown a = record { refused = shownNumber a; place = shownPlace a; value = shownValue a; steps = shownSteps a }
 
 abbrev pub spanned : Interval → IntervalEnds
 spanned a = record { refused = intervalNumber a; place = intervalPlace a; low = intervalLow a; high = intervalHigh a }
@@ -60,7 +60,7 @@ written a = record { refused = writingNumber a; place = writingPlace a; length =
 
 -- ---- doubles at s binary places: which double is exactly a word divided by 2^s is said by a relation
 abbrev pub ShownBy : ℕ → Evaluation → ShownValue → Type 0
-ShownBy s (Answered w) x = (x .refused ≡ 0) × (x .place ≡ 0) × Exactly s (w .word) (x .value)
+ShownBy s (Answered w) x = (x .refused ≡ 0) × (x .place ≡ 0) × Exactly s (w .word) (x .value) × (x .steps ≡ w .steps)
 ShownBy s (Refused r) x = x ≡ shown (NotShown r)
 
 abbrev pub Spans : ℕ → Found → Formula → IntervalEnds → Type 0
@@ -81,6 +81,12 @@ refused-count :
 refused-count = (refl, refl, refl)
 
 refused-word :
-    (worked (Refused (refusal 0 10)) ≡ record { refused = 10; place = 0; word = pos 0 })
-    × (shown (NotShown (refusal 0 13)) ≡ record { refused = 13; place = 0; value = ofBits binary64 0 })
+    (worked (Refused (refusal 0 10)) ≡ record { refused = 10; place = 0; word = pos 0; steps = 0 })
+    × (shown (NotShown (refusal 0 13)) ≡ record { refused = 13; place = 0; value = ofBits binary64 0; steps = 0 })
 refused-word = (refl, refl)
+
+-- an answer goes out with its steps: the root of two, and of 0
+answered-word :
+    (worked (answered (pos 23726566) 5) ≡ record { refused = 0; place = 0; word = pos 23726566; steps = 5 })
+    × (shown (Value (ofBits binary64 0) 7) ≡ record { refused = 0; place = 0; value = ofBits binary64 0; steps = 7 })
+answered-word = (refl, refl)

@@ -34,6 +34,7 @@ pub struct WorkedWord {
     pub refused: u32,
     pub place: u64,
     pub word: i32,
+    pub steps: u16,
 }
 
 #[repr(C)]
@@ -41,6 +42,7 @@ pub struct ShownValue {
     pub refused: u32,
     pub place: u64,
     pub value: f64,
+    pub steps: u16,
 }
 
 #[repr(C)]

@@ -60,11 +60,13 @@ pub fn worked(answer: Evaluation) -> WorkedWord
             refused: 0,
             place: 0,
             word: w.word,
+            steps: w.steps,
         },
         Evaluation::Refused(r) => WorkedWord {
             refused: r.number as u32,
             place: r.place as u64,
             word: 0,
+            steps: 0,
         },
     }
 }
@@ -73,15 +75,17 @@ pub fn shown(answer: Shown) -> ShownValue
     ensures { λ r. ⌜ r ≡ shown answer ⌝ }
 {
     match answer {
-        Shown::Value(value) => ShownValue {
+        Shown::Value(value, steps) => ShownValue {
             refused: 0,
             place: 0,
             value,
+            steps,
         },
         Shown::Refused(r) => ShownValue {
             refused: r.number as u32,
             place: r.place as u64,
             value: 0.0,
+            steps: 0,
         },
     }
 }

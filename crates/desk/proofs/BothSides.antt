@@ -16,7 +16,7 @@ use Rattle.answering.specs.declared.answers.Evaluation.{Evaluation}
 use Rattle.board.specs.Board.{whenGiven, evaluated}
 use Rattle.board.proofs.AnswersInside.{formulaGiven}
 use Rattle.board.proofs.BothSides.{sheet-negated, sheet-same}
-use Rattle.desk.specs.Desk.{shownNumber, shownPlace, shownValue, takenBy, evaluatedDouble, ShownAs}
+use Rattle.desk.specs.Desk.{shownNumber, shownPlace, shownValue, shownSteps, takenBy, evaluatedDouble, ShownAs}
 use Rattle.desk.specs.declared.answers.Shown.{Shown}
 use Rattle.desk.proofs.SameNumbers.{shown-value}
 
@@ -35,12 +35,12 @@ module _ (s : ℕ) (bytes : List ℕ) (n : ℕ) (d : Float) (w : ℤ) (e : taken
   as-negated-word = at-taken (takenOf s (neg d)) (Took (negℤ w)) (taken-negated s d ∙ ap negatedTaken e)
 
   module _ (given : HasFormula s bytes n) (l : f .lo ≤ℤ w) (h : w ≤ℤ f .hi) (l′ : f .lo ≤ℤ negℤ w) (h′ : negℤ w ≤ℤ f .hi) where
-    pub double-negated : OddFormula (f .shape) (wordsIn f) → evaluatedDouble s bytes n (neg d) ≡ answered (negℤ (evaluationWord (evaluatedDouble s bytes n d)))
-    double-negated o = as-negated-word ∙ sheet-negated s bytes n given w l h l′ h′ o ∙ ap (λ (i : Evaluation). answered (negℤ (evaluationWord i))) (sym as-word)
+    pub double-negated : OddFormula (f .shape) (wordsIn f) → evaluatedDouble s bytes n (neg d) ≡ answered (negℤ (evaluationWord (evaluatedDouble s bytes n d))) 0
+    double-negated o = as-negated-word ∙ sheet-negated s bytes n given w l h l′ h′ o ∙ ap (λ (i : Evaluation). answered (negℤ (evaluationWord i)) 0) (sym as-word)
 
     -- by the double that is given: exactly the negated word
-    pub shown-negated : OddFormula (f .shape) (wordsIn f) → (y : Shown) → ShownAs s (evaluatedDouble s bytes n (neg d)) y → (shownNumber y ≡ 0) × (shownPlace y ≡ 0) × Exactly s (negℤ (evaluationWord (evaluatedDouble s bytes n d))) (shownValue y)
-    shown-negated o y p = shown-value s (negℤ (evaluationWord (evaluatedDouble s bytes n d))) y (subst (λ (i : Evaluation). ShownAs s i y) (double-negated o) p)
+    pub shown-negated : OddFormula (f .shape) (wordsIn f) → (y : Shown) → ShownAs s (evaluatedDouble s bytes n (neg d)) y → (shownNumber y ≡ 0) × (shownPlace y ≡ 0) × Exactly s (negℤ (evaluationWord (evaluatedDouble s bytes n d))) (shownValue y) × (shownSteps y ≡ 0)
+    shown-negated o y p = shown-value s (negℤ (evaluationWord (evaluatedDouble s bytes n d))) 0 y (subst (λ (i : Evaluation). ShownAs s i y) (double-negated o) p)
 
     pub double-same : EvenFormula (f .shape) (wordsIn f) → evaluatedDouble s bytes n (neg d) ≡ evaluatedDouble s bytes n d
     double-same o = as-negated-word ∙ sheet-same s bytes n given w l h l′ h′ o ∙ sym as-word

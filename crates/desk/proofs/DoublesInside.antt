@@ -3,7 +3,7 @@
 use Rattle.whole.proofs.Basics.{_≡_, _∙_, sym, ap, subst, _⊎_, List, ℕ, ℤ, _≤ℤ_, _<ℤ_}
 use lib.Ieee.{Float}
 use Rattle.formula.specs.declared.Formula.{Formula}
-use Rattle.formula.specs.Formula.{answerOf}
+use Rattle.formula.specs.Formula.{answerOf, stepsBy}
 use Rattle.door.specs.Exact.{Exactly}
 use Rattle.door.specs.Taken.{takenOf}
 use Rattle.door.specs.declared.answer.Taken.the-variants.{Word as Took, NoWord, NotFinite}
@@ -15,7 +15,7 @@ use Rattle.answering.specs.Answering.{refused, answerAt}
 use Rattle.answering.specs.declared.answers.Evaluation.{Evaluation}
 use Rattle.board.specs.Board.{evaluated}
 use Rattle.board.proofs.AnswersInside.{formulaGiven, by-formula, refuses-outside, answers-inside}
-use Rattle.desk.specs.Desk.{shownNumber, shownPlace, shownValue, intervalNumber, intervalPlace, intervalLow, intervalHigh, takenBy, evaluatedDouble, ShownAs, IntervalBy, IntervalAs}
+use Rattle.desk.specs.Desk.{shownNumber, shownPlace, shownValue, shownSteps, intervalNumber, intervalPlace, intervalLow, intervalHigh, takenBy, evaluatedDouble, ShownAs, IntervalBy, IntervalAs}
 use Rattle.desk.specs.declared.answers.Interval.{Interval}
 use Rattle.desk.specs.declared.answers.Shown.{Shown}
 use Rattle.desk.proofs.SameNumbers.{shown-number, shown-value, interval-ends}
@@ -43,8 +43,8 @@ module _ (s : ℕ) (bytes : List ℕ) (n : ℕ) (given : HasFormula s bytes n) w
       pub double-outside : (w <ℤ f .lo) ⊎ (f .hi <ℤ w) → (shownNumber y ≡ 10) × (shownPlace y ≡ 0)
       double-outside h = let p = shown-number s (evaluated s bytes n w) y double-as-word in let q = refuses-outside s bytes n given w h in (p .0 ∙ q .0, p .1 ∙ q .1)
 
-      pub double-inside : f .lo ≤ℤ w → w ≤ℤ f .hi → (shownNumber y ≡ 0) × (shownPlace y ≡ 0) × Exactly s (answerOf s (f .shape) (wordsIn f) w) (shownValue y)
-      double-inside l h = shown-value s (answerOf s (f .shape) (wordsIn f) w) y (subst (λ (x : Evaluation). ShownAs s x y) (answers-inside s bytes n given w l h) double-as-word)
+      pub double-inside : f .lo ≤ℤ w → w ≤ℤ f .hi → (shownNumber y ≡ 0) × (shownPlace y ≡ 0) × Exactly s (answerOf s (f .shape) (wordsIn f) w) (shownValue y) × (shownSteps y ≡ stepsBy (f .shape .kind) s w)
+      double-inside l h = shown-value s (answerOf s (f .shape) (wordsIn f) w) (stepsBy (f .shape .kind) s w) y (subst (λ (x : Evaluation). ShownAs s x y) (answers-inside s bytes n given w l h) double-as-word)
 
   -- ---- the interval that is given
   pub interval-given : (i : Interval) → IntervalAs s (formulaRead s bytes n) i → (intervalNumber i ≡ 0) × (intervalPlace i ≡ 0) × Exactly s (f .lo) (intervalLow i) × Exactly s (f .hi) (intervalHigh i)

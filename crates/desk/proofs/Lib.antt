@@ -3,5 +3,6 @@ pub mod ReadingLaws
 pub mod SameNumbers
 pub mod DoublesInside
 pub mod BothSides
+pub mod FewSteps
 pub mod WhichRefusals
 pub mod Settled

@@ -31,11 +31,11 @@ module _ (s : ℕ) (bytes : List ℕ) (n : ℕ) where
   abbrev f : Formula
   f = formulaRead s bytes n .formula
 
-  pub door-refusals : (x : Float) (y : Shown) → ShownAs s (evaluatedDouble s bytes n x) y → ((v : Float) × (y ≡ Value v)) ⊎ OneOf doorRefusals (shownNumber y)
+  pub door-refusals : (x : Float) (y : Shown) → ShownAs s (evaluatedDouble s bytes n x) y → ((v : Float) × (k : ℕ) × (y ≡ Value v k)) ⊎ OneOf doorRefusals (shownNumber y)
   door-refusals x y p = at (evaluatedDouble s bytes n x) y p (given-or doorRefusals (formulaRead s bytes n .found) _ (read-or-eleven s bytes n) (λ k h. inr (inr h)) (at-door s f (takenOf s x)))
     where
-      at : (e : Evaluation) (y : Shown) → ShownAs s e y → AnswerOr doorRefusals e → ((v : Float) × (y ≡ Value v)) ⊎ OneOf doorRefusals (shownNumber y)
-      at e (Value v) p h = inl (v, refl)
+      at : (e : Evaluation) (y : Shown) → ShownAs s e y → AnswerOr doorRefusals e → ((v : Float) × (k : ℕ) × (y ≡ Value v k)) ⊎ OneOf doorRefusals (shownNumber y)
+      at e (Value v k) p h = inl (v, k, refl)
       at (Answered w) (NotShown r) p h = absurd p
       at (Refused q) (NotShown r) p (inl h) = absurd (let z : _≡_ {A = ℕ} 0 1 = cc in omega arith)
       at (Refused q) (NotShown r) p (inr h) = inr (rw p h)

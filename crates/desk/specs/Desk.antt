@@ -31,16 +31,20 @@ plusZero = ofBits binary64 0
 
 -- ---- the paper's number, place and values of each case; 0 where there is none
 abbrev pub shownNumber : Shown → ℕ
-shownNumber (Value x) = 0
+shownNumber (Value x k) = 0
 shownNumber (NotShown r) = r .number
 
 abbrev pub shownPlace : Shown → ℕ
-shownPlace (Value x) = 0
+shownPlace (Value x k) = 0
 shownPlace (NotShown r) = r .place
 
 abbrev pub shownValue : Shown → Float
-shownValue (Value x) = x
+shownValue (Value x k) = x
 shownValue (NotShown r) = plusZero
+
+abbrev pub shownSteps : Shown → ℕ
+shownSteps (Value x k) = k
+shownSteps (NotShown r) = 0
 
 abbrev pub intervalNumber : Interval → ℕ
 intervalNumber (Between e) = 0
@@ -77,11 +81,11 @@ takenAt s f x = takenBy s f (takenOf s x)
 abbrev pub evaluatedDouble : ℕ → List ℕ → ℕ → Float → Evaluation
 evaluatedDouble s bytes n x = whenGiven (formulaRead s bytes n .found) (takenAt s (formulaRead s bytes n .formula) x)
 
--- an answer as the door gives it: the double that is exactly the answer word divided by 2^s, or the same refusal
+-- an answer as the door gives it: the double that is exactly the answer word divided by 2^s, with the same steps, or the same refusal
 abbrev pub ShownAs : ℕ → Evaluation → Shown → Type 0
-ShownAs s (Answered w) (Value x) = Exactly s (w .word) x
+ShownAs s (Answered w) (Value x k) = Exactly s (w .word) x × (k ≡ w .steps)
 ShownAs s (Answered w) (NotShown r) = ⊥
-ShownAs s (Refused q) (Value x) = ⊥
+ShownAs s (Refused q) (Value x k) = ⊥
 ShownAs s (Refused q) (NotShown r) = r ≡ q
 
 -- ---- a formula's interval as two doubles, both exact; its refusals are the reader's

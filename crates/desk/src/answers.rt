@@ -2,8 +2,9 @@
 use door::answer::Ends;
 use faults::Refusal;
 
+// The answer as a double, and the steps beside it; or a refusal.
 pub enum Shown {
-    Value(f64),
+    Value(f64, u16),
     Refused(Refusal),
 }
 

@@ -32,7 +32,7 @@ fn shown(e: Evaluation, s: u32) -> Shown
     ensures { λ r. ⌜ ShownAs s e r ⌝ }
 {
     match e {
-        Evaluation::Answered(w) => Shown::Value(door::shown(w.word, s)),
+        Evaluation::Answered(w) => Shown::Value(door::shown(w.word, s), w.steps),
         Evaluation::Refused(r) => Shown::Refused(r),
     }
 }

@@ -1,10 +1,10 @@
--- An odd formula answers at -x exactly the negated answer, and an even one the same: kind by kind.
-use Rattle.whole.proofs.Basics.{_≡_, inl, inr, List, ℕ, take, drop, ℤ, negℤ}
+-- An odd formula answers at -x exactly the negated answer, and an even one the same: kind by kind. Neither is a root, so neither has steps.
+use Rattle.whole.proofs.Basics.{_≡_, refl, inl, inr, List, ℕ, take, drop, ℤ, negℤ}
 use Rattle.polynomial.proofs.BothSides.{polynomial-negated, polynomial-same}
 use Rattle.odd_even.proofs.BothSides.{odd-negated, even-same}
 use Rattle.rational.proofs.BothSides.{odd-over-even, even-over-odd, even-over-even, odd-over-odd}
 use Rattle.fraction.proofs.BothSides.{fraction-negated, fraction-same}
-use Rattle.formula.specs.Formula.{answerBy, answerOf}
+use Rattle.formula.specs.Formula.{answerBy, answerOf, stepsBy}
 use Rattle.formula.specs.Parity.{OddBy, OddFormula, EvenBy, EvenFormula}
 use Rattle.formula.specs.declared.Kind.{Kind}
 use Rattle.formula.specs.declared.Kind.the-variants.{Polynomial, Rational, Fraction, Root, Odd, Even, NoFormula}
@@ -35,3 +35,27 @@ same-by NoFormula s p q mode ws x h = absurd h
 
 pub formula-same : (s : ℕ) (h : Shape) (ws : List ℤ) (x : ℤ) → EvenFormula h ws → answerOf s h ws (negℤ x) ≡ answerOf s h ws x
 formula-same s h ws x e = same-by (h .kind) s (h .p) (h .q) (h .mode) ws x e
+
+no-odd-steps : (k : Kind) (s p q mode : ℕ) (ws : List ℤ) (x : ℤ) → OddBy k p q mode ws → stepsBy k s x ≡ 0
+no-odd-steps Polynomial s p q mode ws x h = refl
+no-odd-steps Rational s p q mode ws x h = refl
+no-odd-steps Fraction s p q mode ws x h = refl
+no-odd-steps Root s p q mode ws x h = absurd h
+no-odd-steps Odd s p q mode ws x h = refl
+no-odd-steps Even s p q mode ws x h = absurd h
+no-odd-steps NoFormula s p q mode ws x h = absurd h
+
+pub odd-steps : (s : ℕ) (h : Shape) (ws : List ℤ) (x : ℤ) → OddFormula h ws → stepsBy (h .kind) s x ≡ 0
+odd-steps s h ws x o = no-odd-steps (h .kind) s (h .p) (h .q) (h .mode) ws x o
+
+no-even-steps : (k : Kind) (s p q mode : ℕ) (ws : List ℤ) (x : ℤ) → EvenBy k p q mode ws → stepsBy k s x ≡ 0
+no-even-steps Polynomial s p q mode ws x h = refl
+no-even-steps Rational s p q mode ws x h = refl
+no-even-steps Fraction s p q mode ws x h = refl
+no-even-steps Root s p q mode ws x h = absurd h
+no-even-steps Odd s p q mode ws x h = absurd h
+no-even-steps Even s p q mode ws x h = refl
+no-even-steps NoFormula s p q mode ws x h = absurd h
+
+pub even-steps : (s : ℕ) (h : Shape) (ws : List ℤ) (x : ℤ) → EvenFormula h ws → stepsBy (h .kind) s x ≡ 0
+even-steps s h ws x e = no-even-steps (h .kind) s (h .p) (h .q) (h .mode) ws x e

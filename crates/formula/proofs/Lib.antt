@@ -1,4 +1,4 @@
--- Laws of formulas. `StaysInRange`, `Distance`, `BothSides` and `CheckedByHand` hold promises.
+-- Laws of formulas. `StaysInRange`, `Distance`, `BothSides`, `FewSteps` and `CheckedByHand` hold promises.
 pub mod IntervalLaws
 pub mod SoundLaws
 pub mod StaysInRange
@@ -6,4 +6,5 @@ pub mod ReadyLaws
 pub mod JudgedLaws
 pub mod Distance
 pub mod BothSides
+pub mod FewSteps
 pub mod CheckedByHand

@@ -11,6 +11,7 @@ use lib.ListN.{length, take, drop}
 use Rattle.word.specs.Rounded.{rounded, roundedUp}
 use Rattle.word.specs.Words.{Word, Scale}
 use Rattle.root.specs.Root.{rootIn, rootWord}
+use Rattle.root.specs.Heron.{digitsIn, heronFrom, rootedBy}
 use Rattle.word.specs.Lists.{Words}
 use Rattle.stored.specs.Words.{words, Stretch}
 use Rattle.admission.specs.declared.Admission.{Admission}
@@ -23,6 +24,7 @@ use Rattle.fraction.specs.Admission.{fractionAdmission}
 use Rattle.formula.specs.declared.Kind.{Kind}
 use Rattle.formula.specs.declared.Kind.the-variants.{Polynomial, Rational, Fraction, Root, Odd, Even, NoFormula}
 use Rattle.formula.specs.declared.Shape.{Shape}
+use Rattle.formula.specs.declared.Worked.{Worked}
 
 -- ---- the answer at x, by the kind
 abbrev pub answerBy : Kind → ℕ → ℕ → ℕ → ℕ → List ℤ → ℤ → ℤ
@@ -37,7 +39,23 @@ answerBy NoFormula s p q mode ws x = pos 0
 abbrev pub answerOf : ℕ → Shape → List ℤ → ℤ → ℤ
 answerOf s h ws x = answerBy (h .kind) s (h .p) (h .q) (h .mode) ws x
 
--- the numbers on the way to it: each rounded product, quotient and sum; of a root, the answer itself
+-- ---- the steps beside it: those of Heron's rule to a root; the other kinds take none
+abbrev pub stepsBy : Kind → ℕ → ℤ → ℕ
+stepsBy Polynomial s x = 0
+stepsBy Rational s x = 0
+stepsBy Fraction s x = 0
+stepsBy Root s x = rootedBy s x .steps
+stepsBy Odd s x = 0
+stepsBy Even s x = 0
+stepsBy NoFormula s x = 0
+
+abbrev pub worked : ℤ → ℕ → Worked
+worked w n = record { word = w; steps = n }
+
+abbrev pub workedOf : ℕ → Shape → List ℤ → ℤ → Worked
+workedOf s h ws x = worked (answerOf s h ws x) (stepsBy (h .kind) s x)
+
+-- ---- the numbers on the way to the answer: each rounded product, quotient and sum; of a root, the answer itself
 abbrev pub numbersBy : Kind → ℕ → ℕ → ℕ → ℕ → List ℤ → ℤ → List ℤ
 numbersBy Polynomial s p q mode ws x = polynomialNumbers s (take p ws) x
 numbersBy Rational s p q mode ws x = rationalNumbers s (take p ws) (take q (drop p ws)) x
@@ -146,6 +164,23 @@ root-numbers :
     × (divisorsBy Root 24 0 0 0 [] (pos 67108864) ≡ [])
 unfolding rootIn
 root-numbers = (refl, refl, refl)
+
+-- a root tells its steps, 6 of 4, 5 of 2 and none of 0, and the other kinds have none
+root-steps :
+    (stepsBy Root 24 (pos 67108864) ≡ 6)
+    × (workedOf 24 (record { kind = Root; p = 0; q = 0; mode = 0 }) [] (pos 33554432) ≡ worked (pos 23726566) 5)
+    × (workedOf 24 (record { kind = Root; p = 0; q = 0; mode = 0 }) [] (pos 0) ≡ worked (pos 0) 0)
+unfolding rootIn heronFrom digitsIn
+root-steps = (refl, refl, refl)
+
+no-steps :
+    (stepsBy Polynomial 24 (pos 67108864) ≡ 0)
+    × (stepsBy Rational 24 (pos 67108864) ≡ 0)
+    × (stepsBy Fraction 24 (pos 67108864) ≡ 0)
+    × (stepsBy Odd 24 (pos 67108864) ≡ 0)
+    × (stepsBy Even 24 (pos 67108864) ≡ 0)
+    × (stepsBy NoFormula 24 (pos 67108864) ≡ 0)
+no-steps = (refl, refl, refl, refl, refl, refl)
 
 abbrev pub tangent : List ℤ
 tangent = pos 0 ∷ pos 16777216 ∷ pos 16777216 ∷ negsuc 16777215 ∷ pos 50331648 ∷ []

@@ -1,6 +1,8 @@
 // A formula of any kind: its shape, and what it answers over the words that stand in bytes.
 ghost use mathlib.Core.Path.{_≡_};
-ghost use Rattle.formula.specs.Formula.{mostOf, answerOf, storedWords, Stored, Answerable};
+ghost use Rattle.root.specs.Root.{Rootable, rootWord};
+ghost use Rattle.root.specs.Heron.{rootedBy};
+ghost use Rattle.formula.specs.Formula.{mostOf, worked, workedOf, storedWords, Stored, Answerable};
 
 // A formula's kind. `NoFormula` is the kind of a record that is no formula.
 pub enum Kind {
@@ -31,6 +33,13 @@ pub struct Formula {
     pub words: [i32; 32],
 }
 
+// What a formula answers: a struct, so that more can be told beside the word. `steps` are those of Heron's rule to a root, the last one
+// included; the other kinds take none.
+pub struct Worked {
+    pub word: i32,
+    pub steps: u16,
+}
+
 // The larger of |lo| and |hi|.
 pub fn most_of(lo: i32, hi: i32) -> u32
     ensures { λ r. ⌜ r ≡ mostOf lo hi ⌝ }
@@ -40,20 +49,38 @@ pub fn most_of(lo: i32, hi: i32) -> u32
     if a < b { b } else { a }
 }
 
+fn without_steps(word: i32) -> Worked
+    ensures { λ r. ⌜ r ≡ worked word 0 ⌝ }
+{
+    Worked { word, steps: 0 }
+}
+
+fn root_of(x: i32, s: u32) -> Worked
+    requires { ⌜ Rootable s x ⌝ }
+    ensures { λ r. ⌜ r ≡ worked (rootWord s x) (rootedBy s x .steps) ⌝ }
+{
+    let r = root::root(x, s);
+    let word = r.root as i32;
+    Worked {
+        word,
+        steps: r.steps,
+    }
+}
+
 // The answer at x of the formula whose words stand from `at` on.
-pub fn answer(b: &[u8], at: usize, shape: Shape, x: i32, s: u32) -> i32
+pub fn answer(b: &[u8], at: usize, shape: Shape, x: i32, s: u32) -> Worked
     requires { ⌜ Stored shape (now b) at × Answerable s shape (storedWords shape (now b) at) x ⌝ }
-    ensures { λ r. ⌜ r ≡ answerOf s shape (storedWords shape (now (b .entry)) at) x ⌝ }
+    ensures { λ r. ⌜ r ≡ workedOf s shape (storedWords shape (now (b .entry)) at) x ⌝ }
 {
     let kind = shape.kind;
     let p = shape.p as usize;
     match kind {
-        Kind::Polynomial => polynomial::answer(b, at, p, x, s),
-        Kind::Rational => rational::answer(b, at, p, shape.q as usize, x, s),
-        Kind::Fraction => fraction::answer(b, at, p, shape.mode as u32, x, s),
-        Kind::Root => root::root(x, s),
-        Kind::Odd => odd_even::odd(b, at, p, x, s),
-        Kind::Even => odd_even::even(b, at, p, x, s),
-        Kind::NoFormula => 0,
+        Kind::Polynomial => without_steps(polynomial::answer(b, at, p, x, s)),
+        Kind::Rational => without_steps(rational::answer(b, at, p, shape.q as usize, x, s)),
+        Kind::Fraction => without_steps(fraction::answer(b, at, p, shape.mode as u32, x, s)),
+        Kind::Root => root_of(x, s),
+        Kind::Odd => without_steps(odd_even::odd(b, at, p, x, s)),
+        Kind::Even => without_steps(odd_even::even(b, at, p, x, s)),
+        Kind::NoFormula => without_steps(0),
     }
 }

@@ -1,11 +1,12 @@
 -- Promise: by a sheet that has the sine every angle is answered: its argument lies in the interval, and the answer is the formula's own there, or the
--- negation of that, and a word. Any other formula gives 15 to every angle. The reader's refusals come before both.
+-- negation of that, and a word, with no steps. Any other formula gives 15 to every angle. The reader's refusals come before both.
 use Rattle.whole.proofs.Basics.{_≡_, _∙_, ap, _⊎_, inl, inr, List, ℕ, arith, ltb, ℤ, _≤ℤ_}
 use Rattle.whole.proofs.Order.{≤ℤ-trans}
 use Rattle.word.specs.Words.{Word, withSign}
 use Rattle.word.proofs.SignLaws.{sign-abs}
 use Rattle.formula.specs.declared.Formula.{Formula}
-use Rattle.formula.specs.Formula.{answerOf}
+use Rattle.formula.specs.declared.Kind.{Kind}
+use Rattle.formula.specs.Formula.{answerOf, stepsBy}
 use Rattle.layout.specs.Fields.{wordsIn}
 use Rattle.faults.specs.declared.Refusal.{Refusal}
 use Rattle.faults.specs.Guard.{guard}
@@ -65,10 +66,10 @@ module _ (s : ℕ) (bytes : List ℕ) (n : ℕ) where
       pub argument-below : x ≤ℤ f .hi
       argument-below = ≤ℤ-trans (argument-high s (quarterOf a) (restOf a) (given-scale s bytes n (has .0)) (rest-most a)) (has .1 .high)
 
-      pub every-angle : sineOf s bytes n a ≡ answered (withSign (ltb 1 (quarterOf a)) own)
+      pub every-angle : sineOf s bytes n a ≡ answered (withSign (ltb 1 (quarterOf a)) own) 0
       every-angle =
           sine-given (quarterOf a) (restOf a)
-          ∙ ap (signedIn (quarterOf a)) (answers-inside s bytes n (has .0) x argument-above argument-below)
+          ∙ ap (signedIn (quarterOf a)) (answers-inside s bytes n (has .0) x argument-above argument-below ∙ ap (λ (k : Kind). answered own (stepsBy k s x)) (has .1 .odd))
 
       pub sine-word : Word (evaluationWord (sineOf s bytes n a))
       sine-word =
@@ -80,7 +81,7 @@ module _ (s : ℕ) (bytes : List ℕ) (n : ℕ) where
       abbrev later : ℕ
       later = angleSum a quarterTurn
 
-      pub every-cosine : cosineOf s bytes n a ≡ answered (withSign (ltb 1 (quarterOf later)) (answerOf s (f .shape) (wordsIn f) (argumentOf s later)))
+      pub every-cosine : cosineOf s bytes n a ≡ answered (withSign (ltb 1 (quarterOf later)) (answerOf s (f .shape) (wordsIn f) (argumentOf s later))) 0
       every-cosine = every-angle later
 
       pub cosine-word : Word (evaluationWord (cosineOf s bytes n a))

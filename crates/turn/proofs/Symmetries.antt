@@ -31,7 +31,7 @@ use Rattle.turn.proofs.EveryAngle.{plain, has-sine, sine-given}
 
 -- ---- negation: twice is none, and only 0 is its own
 negated-back : (e : Evaluation) → negated (negated e) ≡ e
-negated-back (Answered w) = ap answered (negℤ-negℤ (w .word))
+negated-back (Answered w) = ap (λ (z : ℤ). answered z (w .steps)) (negℤ-negℤ (w .word))
 negated-back (Refused r) = refl
 
 own-negation : (w : ℤ) → w ≡ negℤ w → w ≡ pos 0
@@ -60,15 +60,15 @@ module _ (s : ℕ) (bytes : List ℕ) (n : ℕ) where
 
   -- ---- a sheet that has the sine
   module _ (has : HasSine s bytes n) where
-    zero-answer : evaluated s bytes n (pos 0) ≡ answered (pos 0)
+    zero-answer : evaluated s bytes n (pos 0) ≡ answered (pos 0) 0
     zero-answer =
         let k = has .1 in
         let h = ≤ℤ-trans (pos-le {a = 0} {b = unit s} (omega arith)) (k .high) in
         let e = sheet-negated s bytes n (has .0) (pos 0) (k .low) h (k .low) h (rw (k .odd) tt) in
         let w = ap evaluationWord e in
-        e ∙ ap answered (sym w ∙ own-negation _ w)
+        e ∙ ap (λ (z : ℤ). answered z 0) (sym w ∙ own-negation _ w)
 
-    pub sine-of-zero : sineOf s bytes n 0 ≡ answered (pos 0)
+    pub sine-of-zero : sineOf s bytes n 0 ≡ answered (pos 0) 0
     sine-of-zero = sine-given s bytes n has 0 0 ∙ plainly (plain s bytes n 0 0) ∙ ap (evaluated s bytes n) (own-negation _ (rounded-odd (pos 0) (2 ^ (30 - s)))) ∙ zero-answer
 
     one-argument : argumentIn s 1 0 ≡ pos (unit s)

@@ -50,9 +50,9 @@ pub record ForSine (s : ℕ) (f : Formula) : Type 0 where
 abbrev pub HasSine : ℕ → List ℕ → ℕ → Type 0
 HasSine s bytes n = HasFormula s bytes n × ForSine s (formulaRead s bytes n .formula)
 
--- ---- an answer, negated where the sign is set; a refusal stays as it is
+-- ---- an answer, its word negated where the sign is set; a refusal stays as it is
 abbrev pub signedBy : Bool → Evaluation → Evaluation
-signedBy sign (Answered w) = Answered (record { word = withSign sign (w .word) })
+signedBy sign (Answered w) = answered (withSign sign (w .word)) (w .steps)
 signedBy sign (Refused r) = Refused r
 
 abbrev pub negated : Evaluation → Evaluation
@@ -103,12 +103,12 @@ by-places : (spanFault 16 (pos 0) (pos 65536) ≡ 0) × (spanFault 16 (pos 0) (p
 unfolding spanFault
 by-places = (refl, refl, refl, refl)
 
--- the sign in each quarter; a refusal has none
+-- the sign in each quarter, of the word alone; a refusal has none
 signs :
-    (signedIn 0 (answered (pos 3)) ≡ answered (pos 3))
-    × (signedIn 1 (answered (pos 3)) ≡ answered (pos 3))
-    × (signedIn 2 (answered (pos 3)) ≡ answered (negsuc 2))
-    × (signedIn 3 (answered (pos 3)) ≡ answered (negsuc 2))
+    (signedIn 0 (answered (pos 3) 1) ≡ answered (pos 3) 1)
+    × (signedIn 1 (answered (pos 3) 1) ≡ answered (pos 3) 1)
+    × (signedIn 2 (answered (pos 3) 1) ≡ answered (negsuc 2) 1)
+    × (signedIn 3 (answered (pos 3) 1) ≡ answered (negsuc 2) 1)
     × (signedIn 3 (refused 11) ≡ refused 11)
 signs = (refl, refl, refl, refl, refl)
 
@@ -117,8 +117,8 @@ abbrev over : Kind → ℤ → Formula
 over kind lo = formula 5 (shape kind 1 0 0) lo (pos 16777216) []
 
 answer-or-fifteen :
-    (sineBy 24 (over Odd (pos 0)) 0 (answered (pos 3)) ≡ answered (pos 3))
-    × (sineBy 24 (over Odd (pos 1)) 0 (answered (pos 3)) ≡ Refused (refusal 0 15))
-    × (sineBy 24 (over Even (pos 0)) 2 (answered (pos 3)) ≡ Refused (refusal 0 15))
+    (sineBy 24 (over Odd (pos 0)) 0 (answered (pos 3) 0) ≡ answered (pos 3) 0)
+    × (sineBy 24 (over Odd (pos 1)) 0 (answered (pos 3) 0) ≡ Refused (refusal 0 15))
+    × (sineBy 24 (over Even (pos 0)) 2 (answered (pos 3) 0) ≡ Refused (refusal 0 15))
 unfolding spanFault
 answer-or-fifteen = (refl, refl, refl)

@@ -10,8 +10,8 @@ ghost use Rattle.turn.specs.Sine.{oddFault, spanFault, sineFault, signed
 mod angle;
 
 use answering::answers::Evaluation;
-use answering::answers::Worked;
 use formula::Kind;
+use formula::Worked;
 use sheet::answers::Place;
 use sheet::reader;
 
@@ -65,7 +65,7 @@ fn argument(angle: u32, s: u32) -> i32
     word::rounded_shift(angle::folded(angle) as i64, 30 - s) as i32
 }
 
-// The answer, negated where the sign is set.
+// The answer, its word negated where the sign is set.
 fn signed(e: Evaluation, sign: bool) -> Evaluation
     requires { ⌜ Word (evaluationWord e) ⌝ }
     ensures { λ r. ⌜ r ≡ signedBy sign e ⌝ }
@@ -73,6 +73,7 @@ fn signed(e: Evaluation, sign: bool) -> Evaluation
     match e {
         Evaluation::Answered(w) => Evaluation::Answered(Worked {
             word: word::with_sign(sign, w.word as i64) as i32,
+            steps: w.steps,
         }),
         Evaluation::Refused(r) => Evaluation::Refused(r),
     }

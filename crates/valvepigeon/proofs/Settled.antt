@@ -78,7 +78,7 @@ evaluate-settled κs a x y s t p q = p ∙ sym q
 
 -- only one double is exactly a word divided by 2^24
 shown-once : (e : Evaluation) (x y : ShownValue) → ShownBy places e x → ShownBy places e y → x ≡ y
-shown-once (Answered w) x y p q = λ i. record { refused = (p .0 ∙ sym (q .0)) i; place = (p .1 ∙ sym (q .1)) i; value = exactly-unique places (w .word) (x .value) (y .value) (p .2) (q .2) i }
+shown-once (Answered w) x y p q = λ i. record { refused = (p .0 ∙ sym (q .0)) i; place = (p .1 ∙ sym (q .1)) i; value = exactly-unique places (w .word) (x .value) (y .value) (p .2) (q .2) i; steps = (p .3 ∙ sym (q .3)) i }
 shown-once (Refused r) x y p q = p ∙ sym q
 
 pub evaluate-double-settled : Settled double-kinds.ps double-kinds.r double-reads.Learnt

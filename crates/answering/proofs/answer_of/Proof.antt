@@ -1,13 +1,13 @@
 -- `answering::answer_of` meets its contract: a test for each end of the interval, then the formula's answer.
 use Rattle.whole.proofs.Basics.{_∙_, sym, ap, subst, List, ℕ, arith, ℤ, _≤ℤ_, w32, now, needs}
 use Rattle.whole.proofs.Fit.{fit-abs}
-use Rattle.whole.proofs.Held.{Held, held, arg, known, given, tested-lt, tested-ge}
+use Rattle.whole.proofs.Held.{Held, held, arg, known, tested-lt, tested-ge}
 use Rattle.formula.specs.declared.Formula.{Formula}
-use Rattle.formula.specs.Formula.{answerOf, Answerable}
+use Rattle.formula.specs.Formula.{workedOf, Answerable}
 use Rattle.layout.specs.Fields.{rowFor, shapeOf, formulaOf}
 use Rattle.sheet.specs.Reader.{formulaIn, Fit}
 use Rattle.sheet.proofs.Words.{complete-record, words-in, fit}
-use Rattle.answering.specs.Answering.{answered}
+use Rattle.answering.specs.declared.answers.Evaluation.the-variants.{Answered}
 use Rattle.answering.proofs.IntervalLaws.{below-low, above-high, inside, answerable}
 use Rattle.answering.proofs.answer_of.Statement.{statement}
 use Rattle.answering.proofs.answer_of.Tie as tie
@@ -62,9 +62,9 @@ module _ (c : tie.Else2) where
   below : start .args .x ≤ℤ f start .hi
   below = tested-ge (high-held (c .before)) (x-held start) (c .if2 .left)
 
-word-at-requires : tie.Need-word-at-requires
+worked-at-requires : tie.Need-worked-at-requires
 unfolding formulaOf
-word-at-requires c κs =
+worked-at-requires c κs =
     let d = start c in
     let h = shapeOf (rowFor (b d)) (b d) in
     (d .pre .1 .one, rw (held (x-held d)) (subst (λ (ws : List ℤ). Answerable (d .args .s) h ws (d .args .x)) (words-in (rowFor (b d)) (b d)) (answerable (d .args .s) (f d) (d .args .x) (above c) (below c) (d .pre .0) (fits d))))
@@ -75,7 +75,7 @@ returns-3 c =
     let e = c .before in
     let d = start e in
     let h = shapeOf (rowFor (b d)) (b d) in
-    ap answered (held (given {w = w32} (c .word-at .ok)) ∙ rw (held (x-held d)) at (c .word-at .ensures) ∙ ap (λ (ws : List ℤ). answerOf (d .args .s) h ws (d .args .x)) (sym (words-in (rowFor (b d)) (b d))))
+    ap Answered (rw (held (x-held d)) at (c .worked-at .ensures) ∙ ap (λ (ws : List ℤ). workedOf (d .args .s) h ws (d .args .x)) (sym (words-in (rowFor (b d)) (b d))))
     ∙ inside (d .args .s) (f d) (d .args .x) (above e) (below e)
 
 pub answer-of-spec : {M : Type 1} → statement M
@@ -88,5 +88,5 @@ answer-of-spec =
     hi-requires
     (λ c κs. search needs)
     returns-2
-    word-at-requires
+    worked-at-requires
     returns-3)

@@ -8,7 +8,7 @@ use Rattle.polynomial.specs.Polynomial.{horner, PolynomialReady}
 use Rattle.odd_even.specs.OddEven.{evenOf, oddOf}
 use Rattle.rational.specs.Rational.{rationalOf, RationalReady}
 use Rattle.fraction.specs.Ready.{FractionReady}
-use Rattle.formula.specs.Formula.{answerBy, answerOf, wordCount, storedWords}
+use Rattle.formula.specs.Formula.{answerBy, stepsBy, worked, workedOf, wordCount, storedWords}
 use Rattle.formula.specs.declared.Kind.{Kind}
 use Rattle.formula.specs.declared.Kind.the-variants.{Polynomial, Rational, Fraction, Root, Odd, Even, NoFormula}
 use Rattle.formula.proofs.ReadyLaws.{polynomial-ready, rational-ready, fraction-ready, root-ready, odd-ready, even-ready}
@@ -51,9 +51,9 @@ module _ (d : tie.Start) where
   bottom : d .args .shape .kind ≡ Rational → take second (drop first ws) ≡ words bytes (place + 4 * first) second
   bottom e = ap (λ (l : List ℤ). take second (drop first l)) (ws-is Rational e) ∙ ap (take second) (words-drop bytes place first second) ∙ words-all bytes (place + 4 * first) second
 
-  -- the answer of a kind, at the argument as it is read, is the answer of the whole
-  whole : (k : Kind) → d .args .shape .kind ≡ k → answerBy k (d .args .s) first second (d .args .shape .mode) ws (back w32 (d .args .x)) ≡ answerOf (d .args .s) (d .args .shape) ws (d .args .x)
-  whole k e = ap₂ (λ (j : Kind) (x : ℤ). answerBy j (d .args .s) first second (d .args .shape .mode) ws x) (sym e) x-is
+  -- what a kind answers, at the argument as it is read, is what the whole does
+  whole : (k : Kind) → d .args .shape .kind ≡ k → worked (answerBy k (d .args .s) first second (d .args .shape .mode) ws (back w32 (d .args .x))) (stepsBy k (d .args .s) (back w32 (d .args .x))) ≡ workedOf (d .args .s) (d .args .shape) ws (d .args .x)
+  whole k e = ap₂ (λ (j : Kind) (x : ℤ). worked (answerBy j (d .args .s) first second (d .args .shape .mode) ws x) (stepsBy j (d .args .s) x)) (sym e) x-is
 
 answer-requires : tie.Need-answer-requires
 answer-requires c κs =
@@ -80,8 +80,8 @@ answer-requires-3 c κs =
     let e = c .before .enum-told3 .given .1 in
     (reach d Fraction e, subst (λ (l : List ℤ). FractionReady (a .s) (a .shape .mode) l (first d) (back w32 (a .x))) (ws-is d Fraction e) (subst (FractionReady (a .s) (a .shape .mode) (ws d) (first d)) (sym (x-is d)) (fraction-ready (a .s) (a .shape) (ws d) (a .x) (d .pre .1) e)))
 
-root-requires : tie.Need-root-requires
-root-requires c κs =
+root-of-requires : tie.Need-root-of-requires
+root-of-requires c κs =
     let d = c .before .before .before .before in
     let a = d .args in
     subst (Rootable (a .s)) (sym (x-is d)) (root-ready (a .s) (a .shape) (ws d) (a .x) (d .pre .1) (c .enum-told4 .given .1))
@@ -100,48 +100,58 @@ even-requires c κs =
     let e = c .enum-told6 .given .1 in
     (reach d Even e, rw (x-is d, ← one-list d Even refl e) (even-ready (a .s) (a .shape) (ws d) (a .x) (d .pre .1) e))
 
+stepless : (w y : ℤ) → back w32 w ≡ y → worked (back w32 w) 0 ≡ worked y 0
+stepless w y e = ap (λ (z : ℤ). worked z 0) e
+
 returns : tie.Need-returns
 returns c =
-    let b = c .before in
+    let a = c .before in
+    let b = a .before in
     let d = b .before .before .before .before in
     let e = b .enum-told .given .1 in
-    held (given {w = w32} (c .answer .ok)) ∙ c .answer .ensures ∙ ap (λ (l : List ℤ). horner (d .args .s) l (back w32 (d .args .x))) (sym (one-list d Polynomial refl e)) ∙ whole d Polynomial e
+    c .without-steps .ensures ∙ stepless (a .answer .result) _ (held (given {w = w32} (a .answer .ok)) ∙ a .answer .ensures ∙ ap (λ (l : List ℤ). horner (d .args .s) l (back w32 (d .args .x))) (sym (one-list d Polynomial refl e))) ∙ whole d Polynomial e
 
 returns-2 : tie.Need-returns-2
 returns-2 c =
-    let b = c .before .before in
+    let a = c .before in
+    let b = a .before .before in
     let d = b .before .before .before .before in
     let e = b .enum-told2 .given .1 in
-    held (given {w = w32} (c .answer2 .ok)) ∙ c .answer2 .ensures ∙ ap₂ (λ (l m : List ℤ). rationalOf (d .args .s) l m (back w32 (d .args .x))) (sym (top d e)) (sym (bottom d e)) ∙ whole d Rational e
+    c .without-steps2 .ensures ∙ stepless (a .answer2 .result) _ (held (given {w = w32} (a .answer2 .ok)) ∙ a .answer2 .ensures ∙ ap₂ (λ (l m : List ℤ). rationalOf (d .args .s) l m (back w32 (d .args .x))) (sym (top d e)) (sym (bottom d e))) ∙ whole d Rational e
 
 returns-3 : tie.Need-returns-3
 returns-3 c =
-    let b = c .before .before in
+    let a = c .before in
+    let b = a .before .before in
     let d = b .before .before .before .before in
     let e = b .enum-told3 .given .1 in
-    held (given {w = w32} (c .answer3 .ok)) ∙ c .answer3 .ensures ∙ ap (λ (l : List ℤ). answerBy Fraction (d .args .s) (first d) (second d) (d .args .shape .mode) l (back w32 (d .args .x))) (sym (ws-is d Fraction e)) ∙ whole d Fraction e
+    c .without-steps3 .ensures ∙ stepless (a .answer3 .result) _ (held (given {w = w32} (a .answer3 .ok)) ∙ a .answer3 .ensures ∙ ap (λ (l : List ℤ). answerBy Fraction (d .args .s) (first d) (second d) (d .args .shape .mode) l (back w32 (d .args .x))) (sym (ws-is d Fraction e))) ∙ whole d Fraction e
 
 returns-4 : tie.Need-returns-4
 returns-4 c =
     let b = c .before in
-    held (given {w = w32} (c .root .ok)) ∙ c .root .ensures ∙ whole (b .before .before .before .before) Root (b .enum-told4 .given .1)
+    c .root-of .ensures ∙ whole (b .before .before .before .before) Root (b .enum-told4 .given .1)
 
 returns-5 : tie.Need-returns-5
 returns-5 c =
-    let b = c .before in
+    let a = c .before in
+    let b = a .before in
     let d = b .before .before .before .before in
     let e = b .enum-told5 .given .1 in
-    held (given {w = w32} (c .odd .ok)) ∙ c .odd .ensures ∙ ap (λ (l : List ℤ). oddOf (d .args .s) l (back w32 (d .args .x))) (sym (one-list d Odd refl e)) ∙ whole d Odd e
+    c .without-steps4 .ensures ∙ stepless (a .odd .result) _ (held (given {w = w32} (a .odd .ok)) ∙ a .odd .ensures ∙ ap (λ (l : List ℤ). oddOf (d .args .s) l (back w32 (d .args .x))) (sym (one-list d Odd refl e))) ∙ whole d Odd e
 
 returns-6 : tie.Need-returns-6
 returns-6 c =
-    let b = c .before in
+    let a = c .before in
+    let b = a .before in
     let d = b .before .before .before .before in
     let e = b .enum-told6 .given .1 in
-    held (given {w = w32} (c .even .ok)) ∙ c .even .ensures ∙ ap (λ (l : List ℤ). evenOf (d .args .s) l (back w32 (d .args .x))) (sym (one-list d Even refl e)) ∙ whole d Even e
+    c .without-steps5 .ensures ∙ stepless (a .even .result) _ (held (given {w = w32} (a .even .ok)) ∙ a .even .ensures ∙ ap (λ (l : List ℤ). evenOf (d .args .s) l (back w32 (d .args .x))) (sym (one-list d Even refl e))) ∙ whole d Even e
 
 returns-7 : tie.Need-returns-7
-returns-7 c = whole (c .before .before .before .before) NoFormula (c .enum-told7 .given .1)
+returns-7 c =
+    let b = c .before in
+    c .without-steps6 .ensures ∙ whole (b .before .before .before .before) NoFormula (b .enum-told7 .given .1)
 
 pub answer-spec : {M : Type 1} → statement M
 answer-spec =
@@ -152,16 +162,22 @@ answer-spec =
     answer-requires
     (λ c. search needs)
     (λ c. search needs)
+    (λ c. search needs)
     answer-requires-2
+    (λ c. search needs)
     (λ c. search needs)
     (λ c. search needs)
     answer-requires-3
     (λ c. search needs)
-    root-requires
+    (λ c. search needs)
+    root-of-requires
     (λ c. search needs)
     odd-requires
     (λ c. search needs)
+    (λ c. search needs)
     even-requires
+    (λ c. search needs)
+    (λ c. search needs)
     (λ c. search needs)
     returns
     returns-2

@@ -1,10 +1,7 @@
--- `root::root` meets its contract: the scaled word is short enough for `heron`, and its root is a word.
-use Rattle.whole.proofs.Basics.{_≡_, _∙_, ap, ℕ, _*_, _^_, _<_, arith, pos, natAbs, w32, SFits}
-use Rattle.whole.proofs.Diff.{n}
-use Rattle.whole.proofs.Fit.{fit}
-use Rattle.whole.proofs.Held.{held, held-nat, cast-nat, arg}
-use Rattle.root.specs.Root.{rootOf}
-use Rattle.root.proofs.RootLaws.{root-most}
+-- `root::root` meets its contract: the scaled word is short enough for `heron`.
+use Rattle.whole.proofs.Basics.{_≡_, _∙_, ap, ℕ, _*_, _^_, _<_, arith, natAbs}
+use Rattle.whole.proofs.Held.{held-nat, cast-nat, arg}
+use Rattle.root.specs.Heron.{heronOf}
 use Rattle.word.proofs.WordLaws.{scaled-most}
 use Rattle.root.proofs.root.Statement.{statement}
 use Rattle.root.proofs.root.Tie as tie
@@ -19,18 +16,11 @@ module _ (c : tie.Start) where
 v-is : (c : tie.After-scaled) → c .scaled .result ≡ v (c .before)
 v-is c = c .scaled .ensures ∙ ap (λ (k : ℕ). k * 2 ^ c .before .args .s) (held-nat (arg (c .before .fits .x)))
 
-module _ (c : tie.After-heron) where
-  answer-is : c .heron .result ≡ rootOf (v (c .before .before))
-  answer-is = c .heron .ensures ∙ ap rootOf (v-is (c .before))
-
-  answer-fits : SFits w32 (pos (c .heron .result))
-  answer-fits = fit (n (c .heron .result)) (omega (arith, answer-is, root-most (v (c .before .before)) (v-most (c .before .before))))
-
 cast-scaled : tie.Need-cast-scaled
 cast-scaled c = cast-nat (arg (c .fits .x)) (c .pre .2) (omega (arith, c .pre .1))
 
 returns : tie.Need-returns
-returns c = held (arg (answer-fits c)) ∙ ap pos (answer-is c)
+returns c = c .heron .ensures ∙ ap heronOf (v-is (c .before))
 
 pub root-spec : {M : Type 1} → statement M
-root-spec = tie.close (tie.spec cast-scaled (λ c κs. c .pre .0) (λ c κs. omega (arith, v-is c, v-most (c .before))) (λ c. answer-fits c) returns)
+root-spec = tie.close (tie.spec cast-scaled (λ c κs. c .pre .0) (λ c κs. omega (arith, v-is c, v-most (c .before))) returns)

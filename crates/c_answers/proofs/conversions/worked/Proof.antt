@@ -12,7 +12,7 @@ fits-word c = search (needs, c .struct-told .given)
 returns : tie.Need-returns
 returns c =
     let a = c .before .before .answer .given in
-    ap (λ (z : ℤ). worked (answered z)) (held (arg {w = w32} {x = a .0 .0 .word} (fits-word c))) ∙ ap worked (sym (a .1))
+    ap (λ (z : ℤ). worked (answered z (a .0 .0 .steps))) (held (arg {w = w32} {x = a .0 .0 .word} (fits-word c))) ∙ ap worked (sym (a .1))
 
 returns-2 : tie.Need-returns-2
 returns-2 c = ap worked (sym (c .before .before .answer2 .given .1))

@@ -1,11 +1,11 @@
--- `answering::word_at` meets its contract: the kind's own answer, by the row of the record's code.
-use Rattle.whole.proofs.Basics.{_∙_, arith, w32, now, needs}
-use Rattle.whole.proofs.Held.{held, arg, given}
+-- `answering::worked_at` meets its contract: the kind's own answer and steps, by the row of the record's code.
+use Rattle.whole.proofs.Basics.{arith, now, needs}
+use Rattle.whole.proofs.Held.{held, arg}
 use Rattle.layout.specs.Fields.{rowFor, Complete}
 use Rattle.layout.proofs.Complete.{reach}
 use Rattle.sheet.proofs.Words.{complete-record}
-use Rattle.answering.proofs.word_at.Statement.{statement}
-use Rattle.answering.proofs.word_at.Tie as tie
+use Rattle.answering.proofs.worked_at.Statement.{statement}
+use Rattle.answering.proofs.worked_at.Tie as tie
 
 whole : (d : tie.Start) → Complete (rowFor (now (d .args .b))) (now (d .args .b))
 whole d = complete-record _ (d .pre .0)
@@ -24,9 +24,8 @@ answer-requires c κs =
 returns : tie.Need-returns
 returns c =
     let s = c .before .before .before .before .before in
-    held (given {w = w32} (c .answer .ok))
-    ∙ rw (c .before .shape-of .ensures, c .before .before .row-of .ensures, c .before .before .before .code .ensures, held (arg (s .fits .x))) at (c .answer .ensures)
+    rw (c .before .shape-of .ensures, c .before .before .row-of .ensures, c .before .before .before .code .ensures, held (arg (s .fits .x))) at (c .answer .ensures)
 
-pub word-at-spec : {M : Type 1} → statement M
-word-at-spec =
+pub worked-at-spec : {M : Type 1} → statement M
+worked-at-spec =
     tie.close (tie.spec (λ c κs. search needs) (λ c κs. search needs) shape-of-requires answer-requires returns)
