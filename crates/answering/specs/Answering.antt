@@ -46,7 +46,13 @@ answerAt s f x =
     (cond (ltZ (f .hi) x) (refused 10)
     (Answered (workedOf s (f .shape) (wordsIn f) x)))
 
--- ---- worked examples: the constant 3, over -1 step to 1 step: both ends, and one step outside each
+-- ---- worked examples: what an answer and a refusal tell
+told :
+    ((evaluationNumber (answered (pos 3) 5) ≡ 0) × (evaluationPlace (answered (pos 3) 5) ≡ 0) × (evaluationWord (answered (pos 3) 5) ≡ pos 3) × (evaluationSteps (answered (pos 3) 5) ≡ 5))
+    × ((evaluationNumber (Refused (refusal 8 7)) ≡ 7) × (evaluationPlace (Refused (refusal 8 7)) ≡ 8) × (evaluationWord (Refused (refusal 8 7)) ≡ pos 0) × (evaluationSteps (Refused (refusal 8 7)) ≡ 0))
+told = ((refl, refl, refl, refl), (refl, refl, refl, refl))
+
+-- the constant 3, over -1 step to 1 step: both ends, and one step outside each
 abbrev pub constant : Formula
 constant = formula 1 (shape Polynomial 1 0 0) (negsuc 0) (pos 1) (padded (pos 50331648 ∷ []))
 

@@ -39,5 +39,10 @@ pub fn answer_of(b: &[u8], x: i32, s: u32) -> Evaluation
     if layout::hi(b) < x {
         return refused(10);
     }
-    Evaluation::Answered(worked_at(b, x, s))
+    // Field by field: copied as one the struct is packed into a single number, which costs every kind instructions.
+    let w = worked_at(b, x, s);
+    Evaluation::Answered(Worked {
+        word: w.word,
+        steps: w.steps,
+    })
 }

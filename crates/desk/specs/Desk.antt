@@ -98,7 +98,13 @@ IntervalBy s (Withheld q) f (NoInterval r) = r ≡ q
 abbrev pub IntervalAs : ℕ → Reading → Interval → Type 0
 IntervalAs s r i = IntervalBy s (r .found) (r .formula) i
 
--- ---- worked examples: 10 and 13 of the door
+-- ---- worked examples: what an answer and a refusal tell
+told :
+    ((shownNumber (Value plusZero 5) ≡ 0) × (shownPlace (Value plusZero 5) ≡ 0) × (shownValue (Value plusZero 5) ≡ plusZero) × (shownSteps (Value plusZero 5) ≡ 5))
+    × ((shownNumber (NotShown (refusal 8 7)) ≡ 7) × (shownPlace (NotShown (refusal 8 7)) ≡ 8) × (shownValue (NotShown (refusal 8 7)) ≡ plusZero) × (shownSteps (NotShown (refusal 8 7)) ≡ 0))
+told = ((refl, refl, refl, refl), (refl, refl, refl, refl))
+
+-- 10 and 13 of the door
 door-refusals :
     (takenBy 24 constant NoWord ≡ refused 10)
     × (takenBy 24 constant NotFinite ≡ refused 13)

@@ -6,7 +6,7 @@ use lib.Pow.{pow-pos, pow-mono, pow-add}
 use Rattle.root.specs.Root.{RootOf, rootOf}
 use Rattle.root.specs.Heron.{digits, start, next, rooted, heronFrom, heronOf}
 use Rattle.root.specs.declared.Rooted.{Rooted}
-use Rattle.root.proofs.DigitsLaws.{digits-of}
+use Rattle.root.proofs.DigitsLaws.{digits-of, digits-most}
 use Rattle.root.proofs.RootLaws.{root-is}
 
 -- ---- a step
@@ -40,7 +40,7 @@ next-pos v w p h = by (next v w) (not-below v w h)
     by (suc u) f = omega arith
 
 -- it is below the old where the old's square is above v, and only there
-falls : (v w : ℕ) → v < w * w → next v w < w
+pub falls : (v w : ℕ) → v < w * w → next v w < w
 falls v zero h = absurd (omega arith)
 falls v (suc w) h =
     let p : 0 < suc w = omega arith in
@@ -86,6 +86,13 @@ start-near v h =
 
 pub start-pos : (v : ℕ) → 0 < start v
 start-pos v = pow-pos ((digits v + 1) / 2)
+
+-- of a number of at most 60 digits it is at most 2 ^ 30
+pub exponent-most : (v : ℕ) → v < 2 ^ 60 → (digits v + 1) / 2 ≤ 30
+exponent-most v h = omega (arith, digits-most v 60 h)
+
+pub start-most : (v : ℕ) → v < 2 ^ 60 → start v ≤ 2 ^ 30
+start-most v h = pow-mono {i = (digits v + 1) / 2} {j = 30} (exponent-most v h)
 
 -- ---- the walk. Where the new number is below the old it goes on from there, with a step more; else it ends
 pub goes-on : (k v w n : ℕ) → next v w < w → heronFrom (suc k) v w n ≡ heronFrom k v (next v w) (suc n)

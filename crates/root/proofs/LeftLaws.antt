@@ -1,4 +1,4 @@
--- What is left of Heron's rule in the midst of it: from w on, with n steps done, it comes to the same root by as many steps in all.
+-- What is left of Heron's rule in the midst of it: from w on, with n steps done, it comes to the same root, by as many steps in all.
 use Rattle.whole.proofs.Basics.{_≡_, _∙_, refl, sym, ap, subst, ℕ, suc, zero, _+_, _≤_, _<_, arith}
 use native.Mathlib.Decide.{decLe}
 use Rattle.root.specs.Heron.{start, next, rooted, heronFrom, heronOf}
@@ -14,23 +14,21 @@ pub left-first : (v : ℕ) → 0 < v → Left v (start v) 0
 left-first zero h = absurd (omega arith)
 left-first (suc m) h = record { allowed = start (suc m); enough = omega arith; rest = refl }
 
-pub left-next : (v w n : ℕ) → next v w < w → Left v w n → Left v (next v w) (n + 1)
+-- a step that falls
+pub left-next : (v w n : ℕ) → next v w < w → Left v w n → Left v (next v w) (suc n)
 left-next v w n h l = by (l .allowed) (l .enough) (l .rest)
   where
-    by : (k : ℕ) → w ≤ k → heronFrom k v w n ≡ heronOf v → Left v (next v w) (n + 1)
+    by : (k : ℕ) → w ≤ k → heronFrom k v w n ≡ heronOf v → Left v (next v w) (suc n)
     by zero f e = absurd (omega arith)
-    by (suc k) f e =
-        let one : n + 1 ≡ suc n = omega arith in
-        record { allowed = k; enough = omega arith; rest = ap (heronFrom k v (next v w)) one ∙ sym (goes-on k v w n h) ∙ e }
+    by (suc k) f e = record { allowed = k; enough = omega arith; rest = sym (goes-on k v w n h) ∙ e }
 
-pub left-last : (v w n : ℕ) → 0 < w → w ≤ next v w → Left v w n → rooted w (n + 1) ≡ heronOf v
+-- and the last
+pub left-last : (v w n : ℕ) → 0 < w → w ≤ next v w → Left v w n → rooted w (suc n) ≡ heronOf v
 left-last v w n p h l = by (l .allowed) (l .enough) (l .rest)
   where
-    by : (k : ℕ) → w ≤ k → heronFrom k v w n ≡ heronOf v → rooted w (n + 1) ≡ heronOf v
+    by : (k : ℕ) → w ≤ k → heronFrom k v w n ≡ heronOf v → rooted w (suc n) ≡ heronOf v
     by zero f e = absurd (omega arith)
-    by (suc k) f e =
-        let one : n + 1 ≡ suc n = omega arith in
-        ap (rooted w) one ∙ sym (ends k v w n h) ∙ e
+    by (suc k) f e = sym (ends k v w n h) ∙ e
 
 -- no step is taken back
 counted : (k v w n : ℕ) → n ≤ heronFrom k v w n .steps

@@ -1,6 +1,6 @@
 -- Promise: by a sheet that has the sine every angle is answered: its argument lies in the interval, and the answer is the formula's own there, or the
 -- negation of that, and a word, with no steps. Any other formula gives 15 to every angle. The reader's refusals come before both.
-use Rattle.whole.proofs.Basics.{_≡_, _∙_, ap, _⊎_, inl, inr, List, ℕ, arith, ltb, ℤ, _≤ℤ_}
+use Rattle.whole.proofs.Basics.{_≡_, _∙_, refl, sym, ap, _⊎_, inl, inr, List, ℕ, arith, ltb, ℤ, _≤ℤ_}
 use Rattle.whole.proofs.Order.{≤ℤ-trans}
 use Rattle.word.specs.Words.{Word, withSign}
 use Rattle.word.proofs.SignLaws.{sign-abs}
@@ -10,9 +10,9 @@ use Rattle.formula.specs.Formula.{answerOf, stepsBy}
 use Rattle.layout.specs.Fields.{wordsIn}
 use Rattle.faults.specs.declared.Refusal.{Refusal}
 use Rattle.faults.specs.Guard.{guard}
-use Rattle.sheet.specs.Reader.{formulaRead, HasFormula}
+use Rattle.sheet.specs.Reader.{foundNumber, formulaRead, HasFormula}
 use Rattle.sheet.specs.declared.answers.Found.{Found}
-use Rattle.sheet.specs.declared.answers.Found.the-variants.{Refused as Withheld}
+use Rattle.sheet.specs.declared.answers.Found.the-variants.{Given, Refused as Withheld}
 use Rattle.sheet.proofs.FormulasGiven.{given-scale, given-fits}
 use Rattle.answering.specs.Answering.{evaluationWord, refused, answered}
 use Rattle.answering.specs.declared.answers.Evaluation.{Evaluation}
@@ -86,3 +86,18 @@ module _ (s : ℕ) (bytes : List ℕ) (n : ℕ) where
 
       pub cosine-word : Word (evaluationWord (cosineOf s bytes n a))
       cosine-word = sine-word later
+
+  -- ---- so a sine ends in one of three ways: with the reader's refusal, with 15, or with an answer that has no steps
+  abbrev pub ThreeWays : Evaluation → Type 0
+  ThreeWays e = ((r : Refusal) × (formulaRead s bytes n .found ≡ Withheld r) × (e ≡ Refused r)) ⊎ ((e ≡ refused 15) ⊎ ((w : ℤ) × (e ≡ answered w 0)))
+
+  pub three-ways : (a : ℕ) → ThreeWays (sineOf s bytes n a)
+  three-ways a = at (formulaRead s bytes n .found) refl (or-fifteen s f)
+    where
+      clash : _≡_ {A = ℕ} 0 15 → ⊥
+      clash e = omega arith
+
+      at : (i : Found) → formulaRead s bytes n .found ≡ i → (sineFault s f ≡ 0) ⊎ (sineFault s f ≡ 15) → ThreeWays (sineOf s bytes n a)
+      at (Withheld r) e k = inl (r, e, reader-first a r e)
+      at Given e (inl z) = inr (inr (_, every-angle (has-sine (ap foundNumber e) z) a))
+      at Given e (inr z) = inr (inl (fifteen (ap foundNumber e) (λ k. clash (sym (sine-enough s f k) ∙ z)) a))

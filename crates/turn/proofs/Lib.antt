@@ -5,4 +5,5 @@ pub mod FaultLaws
 pub mod EveryAngle
 pub mod Symmetries
 pub mod WhichRefusals
+pub mod NoSteps
 pub mod Settled

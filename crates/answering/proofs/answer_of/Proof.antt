@@ -1,5 +1,5 @@
 -- `answering::answer_of` meets its contract: a test for each end of the interval, then the formula's answer.
-use Rattle.whole.proofs.Basics.{_∙_, sym, ap, subst, List, ℕ, arith, ℤ, _≤ℤ_, w32, now, needs}
+use Rattle.whole.proofs.Basics.{_∙_, sym, ap, subst, List, ℕ, arith, ℤ, _≤ℤ_, w32, SFits, now, needs}
 use Rattle.whole.proofs.Fit.{fit-abs}
 use Rattle.whole.proofs.Held.{Held, held, arg, known, tested-lt, tested-ge}
 use Rattle.formula.specs.declared.Formula.{Formula}
@@ -7,6 +7,7 @@ use Rattle.formula.specs.Formula.{workedOf, Answerable}
 use Rattle.layout.specs.Fields.{rowFor, shapeOf, formulaOf}
 use Rattle.sheet.specs.Reader.{formulaIn, Fit}
 use Rattle.sheet.proofs.Words.{complete-record, words-in, fit}
+use Rattle.answering.specs.Answering.{answered}
 use Rattle.answering.specs.declared.answers.Evaluation.the-variants.{Answered}
 use Rattle.answering.proofs.IntervalLaws.{below-low, above-high, inside, answerable}
 use Rattle.answering.proofs.answer_of.Statement.{statement}
@@ -69,13 +70,19 @@ worked-at-requires c κs =
     let h = shapeOf (rowFor (b d)) (b d) in
     (d .pre .1 .one, rw (held (x-held d)) (subst (λ (ws : List ℤ). Answerable (d .args .s) h ws (d .args .x)) (words-in (rowFor (b d)) (b d)) (answerable (d .args .s) (f d) (d .args .x) (above c) (below c) (d .pre .0) (fits d))))
 
+-- what is answered there, whose word is read as it was put
+fits-word : (c : tie.After-struct-told) → SFits w32 (c .before .worked-at .result .word)
+fits-word c = search (needs, c .struct-told .given)
+
 returns-3 : tie.Need-returns-3
 unfolding formulaOf
 returns-3 c =
-    let e = c .before in
+    let a = c .before .worked-at in
+    let e = c .before .before in
     let d = start e in
     let h = shapeOf (rowFor (b d)) (b d) in
-    ap Answered (rw (held (x-held d)) at (c .worked-at .ensures) ∙ ap (λ (ws : List ℤ). workedOf (d .args .s) h ws (d .args .x)) (sym (words-in (rowFor (b d)) (b d))))
+    ap (λ (z : ℤ). answered z (a .result .steps)) (held (arg {w = w32} (fits-word c)))
+    ∙ ap Answered (rw (held (x-held d)) at (a .ensures) ∙ ap (λ (ws : List ℤ). workedOf (d .args .s) h ws (d .args .x)) (sym (words-in (rowFor (b d)) (b d))))
     ∙ inside (d .args .s) (f d) (d .args .x) (above e) (below e)
 
 pub answer-of-spec : {M : Type 1} → statement M
