@@ -1,10 +1,11 @@
 """The paper's own cases (01, 'Checked by hand'), P or not, with the tie cases
 as request M-101 has them, and the listing's; then cases of odd and even
-formulas (request M-100), of ties (M-101) and of sines and cosines (M-102),
-worked out by hand.
+formulas (request M-100), of ties (M-101), of sines and cosines (M-102) and of
+the steps that roots take (M-103), worked out by hand.
 
 A case is a formula, an argument or an angle where an answer is asked, and what
-is given: an answer word, a refusal number at the record, or accepted (0).
+is given: an answer word, a refusal number at the record, or accepted (0). A
+root's case has no formula, and has the number of steps after the answer word.
 """
 
 from formulas import EVEN, FRACTION, ODD, POLYNOMIAL, RATIONAL, ROOT, Formula
@@ -429,4 +430,68 @@ UNFIT = (
     fraction(0, ones(0, 1, 1)),
     TANGENT,
     SQUARE_ROOT,
+)
+
+# Roots, with the number of steps of Heron's rule. In the comments each w has
+# the whole part of v/w in brackets behind it, and the last number is the new
+# one that is not below the old, so there is a step for each bracket. v is
+# x * 2^24, and 2^13 = 8192, 2^25 = 33554432, 2^27 = 134217728.
+
+ANY_ROOT = SQUARE_ROOT._replace(hi=2147483647)
+
+ROOTS = (
+    (0, 0, 0),
+    # v = 2^24 has 25 digits; 25/2 rounded up is 13.
+    # 8192 (2048), 5120 (3276), 4198 (3996), 4097 (4095), 4096 (4096), 4096.
+    (1, 4096, 5),
+    # 33554432 has 26 digits.
+    # 8192 (4096), 6144 (5461), 5802 (5783), 5792 (5793), 5792.
+    (2, 5792, 4),
+    # 50331648 has 26 digits. 8192 (6144), 7168 (7021), 7094 (7094), 7094.
+    (3, 7094, 3),
+    # 2^26 has 27 digits.
+    # 16384 (4096), 10240 (6553), 8396 (7992), 8194 (8190), 8192 (8192), 8192.
+    (4, 8192, 5),
+    # v = 2^36 + 2^24 = 68736253952 has 37 digits. 2^19 = 524288 (131104),
+    # 327696 (209756), 268726 (255785), 262255 (262097), 262176 (262175),
+    # 262175 (262176), 262175.
+    (4097, 262175, 6),
+    # The square of 2^24: v = 2^48 has 49 digits. 33554432 (8388608),
+    # 20971520 (13421772), 17196646 (16368015), 16782330 (16772103),
+    # 16777216 (16777216), 16777216.
+    (16777216, 16777216, 5),
+    # v = 2^49 has 50 digits. 33554432 (16777216), 25165824 (22369621),
+    # 23767722 (23685482), 23726602 (23726530), 23726566 (23726566), 23726566.
+    (33554432, 23726566, 5),
+    # 48 digits: v = 2^48 - 2^24 is 2^24 * (2^24 - 1), and that is the first
+    # bracket. 16777216 (16777215), 16777215 (16777216), 16777215.
+    (16777215, 16777215, 2),
+    # v = 2^54 - 2^24 has 54 digits. Over 2^27 it is 2^27 - 1/8; then over
+    # 2^27 - 1 it is less than 2^27 + 1, as 2^54 - 1 is more than v.
+    # 134217728 (134217727), 134217727 (134217728), 134217727.
+    (1073741823, 134217727, 2),
+    # v = 2^54 has 55 digits. 2^28 = 268435456 (67108864),
+    # 167772160 (107374182), 137573171 (130944125), 134258648 (134176820),
+    # 134217734 (134217722), 134217728 (134217728), 134217728.
+    (1073741824, 134217728, 6),
+    # The largest word: v = 2^55 - 2^24 has 55 digits. 268435456 (134217727),
+    # 201326591 (178956971), 190141781 (189483851), 189812816 (189812246),
+    # 189812531 (189812531), 189812531. (It is also the largest A above.)
+    (2147483647, 189812531, 5),
+    # A square less one: where x is n^2 * 2^22 + n, v is
+    # n^2 * 2^46 + 2 * n * 2^23 = (n * 2^23 + 1)^2 - 1; where x is
+    # n^2 * 2^22 - n, v is (n * 2^23 - 1)^2 - 1. There the last new number is
+    # above the old one, and two that agree are never met: from the one the
+    # rule goes to the other.
+    # n = 1, less: v = 8388607^2 - 1 has 46 digits. 2^23 = 8388608 (8388606),
+    # 8388607 (8388606), 8388606 (8388608), 8388607.
+    (4194303, 8388606, 3),
+    # n = 1, more: v = 8388609^2 - 1 has 47 digits. 16777216 (4194305),
+    # 10485760 (6710888), 8598324 (8184008), 8391166 (8386052),
+    # 8388609 (8388608), 8388608 (8388610), 8388609.
+    (4194305, 8388608, 6),
+    # n = 4, more: v = 33554433^2 - 1 has 51 digits. 67108864 (16777217),
+    # 41943040 (26843547), 34393293 (32736032), 33564662 (33544207),
+    # 33554434 (33554432), 33554433 (33554432), 33554432 (33554434), 33554433.
+    (67108868, 33554432, 7),
 )

@@ -11,26 +11,28 @@ from random import Random
 
 import slow
 from by_hand import (
-    ADMISSIONS, ANSWERS, COSINES, FIT, LISTED, ODD_AND_EVEN_ADMISSIONS,
-    ODD_AND_EVEN_ANSWERS, REFUSED, SERIES, SINES, TIES, UNFIT)
+    ADMISSIONS, ANSWERS, ANY_ROOT, COSINES, FIT, LISTED,
+    ODD_AND_EVEN_ADMISSIONS, ODD_AND_EVEN_ANSWERS, REFUSED, ROOTS, SERIES,
+    SINES, TIES, UNFIT)
 from door import evaluate_double, interval, pattern_of, word_of
 from evaluation import evaluate
 from formulas import (
     EVEN, FRACTION, ODD, POLYNOMIAL, POLYNOMIALS, RATIONAL, ROOT, Formula,
     admission, answer)
 from makers import (
-    EDGE_ANGLES, EVEN_FORMS, KINDS, ODD_FORMS, OTHER_FORMS, angle_in,
-    arguments, formula_of_form, full_polynomial, full_quarter_formula,
-    good_formula, good_formulas, largest, quarter_formula, sheet_of, signed,
-    size, tied_angle_in, tied_divisor, tied_formula, tied_quarter_formula,
-    with_field, word)
+    EDGE_ANGLES, EVEN_FORMS, FIRST_AND_LAST, KINDS, ODD_FORMS, OTHER_FORMS,
+    SEVEN_STEPS, SQUARES_LESS_ONE, angle_in, arguments, change_of_steps,
+    formula_of_form, full_polynomial, full_quarter_formula, good_formula,
+    good_formulas, largest, quarter_formula, sheet_of, signed, size, steps_to,
+    tied_angle_in, tied_divisor, tied_formula, tied_quarter_formula,
+    with_field, word, word_of_digits)
 from number import (
     M, NO_WORD, ONE, bound_product, bound_quotient, is_word, nearest, product,
     quotient, root)
 from questions import (
     COSINE, COUNT, DOUBLE, EVALUATE, FORMULA, INTERVAL, RECORD, SHEET, SINE,
-    answer_to, ask_cosine, ask_record, ask_sheet, ask_sine, buffer_beforehand,
-    unpacked_fields)
+    answer_to, ask_cosine, ask_double, ask_evaluate, ask_record, ask_sheet,
+    ask_sine, buffer_beforehand, unpacked_fields)
 from refusal import Refused
 from sheet import END, START, formula_count, formula_of, read, read_run
 from turn import HALF_TURN, QUARTER, cosine, sine, wrapped
@@ -74,9 +76,9 @@ def check_by_hand(tally, rng):
     for formula, argument, expected in (*ANSWERS, *ODD_AND_EVEN_ANSWERS,
                                         *TIES):
         sheet = sheet_of([formula])
-        tally.same("by hand", evaluate(sheet, 1, argument), expected)
+        tally.same("by hand", evaluate(sheet, 1, argument).word, expected)
         tally.same("by hand, in doubles",
-                   evaluate_double(sheet, 1, pattern_of(argument)),
+                   evaluate_double(sheet, 1, pattern_of(argument)).pattern,
                    pattern_of(expected))
     for formula, expected in (*ADMISSIONS, *ODD_AND_EVEN_ADMISSIONS):
         tally.same("by hand, admission",
@@ -142,22 +144,100 @@ def check_rounding(tally, rng):
         tally.same(f"quotient {a} {d}", quotient(a, d), expected)
 
 
-def check_bounds_and_roots(tally, rng):
-    """Bounds and roots against slow definitions."""
+def check_bounds(tally, rng):
+    """Bounds against slow definitions."""
     for _ in range(4000):
         a, b, d = abs(word(rng)), abs(word(rng)), abs(word(rng)) or 1
         tally.same(f"bound product {a} {b}", bound_product(a, b),
                    slow.bound_product(a, b))
         tally.same(f"bound quotient {a} {d}", bound_quotient(a, d),
                    slow.bound_quotient(a, d))
-        side = rng.randrange(1, 46341)
-        for x in (a, side * side - 1, side * side, side * side + 1, 0, M):
-            tally.same(f"root {x}", root(x), slow.root(x))
+
+
+def check_roots_by_hand(tally, rng):
+    """The cases of roots, each with its steps."""
+    sheet = sheet_of([ANY_ROOT])
+    for x, expected, steps in ROOTS:
+        tally.same(f"root {x} by hand", evaluate(sheet, 1, x),
+                   (expected, steps))
+        tally.same(f"root {x} by hand, in doubles",
+                   evaluate_double(sheet, 1, pattern_of(x)),
+                   (pattern_of(expected), steps))
+
+
+def roots_to_take(rng):
+    """Arguments above 0: all small ones, those about powers of two, squares
+    and what is next to them, where steps change, and any."""
+    yield from range(1, 4500)
+    yield from (*SEVEN_STEPS, *SQUARES_LESS_ONE, M)
+    for digits in range(13, 32):
+        power = 1 << digits - 1
+        yield from (power - 1, power, power + 1)
+        for _ in range(60):
+            yield word_of_digits(rng, digits)
+        for _ in range(10):
+            yield from change_of_steps(rng, digits)
+    for _ in range(1000):
+        side = rng.randrange(68, 46341)
+        yield from (side * side - 1, side * side, side * side + 1)
+
+
+def check_roots(tally, rng):
+    """Roots and their steps against slow definitions. The first number is
+    above the exact root, and at most twice it. The numbers fall to the root,
+    and from there the rule would go on to the root again, or, where v is a
+    square less one, to one more."""
+    for x in roots_to_take(rng):
+        v = x * ONE
+        r, steps = root(x)
+        *above, last, new = slow.numbers_of_heron(x)
+        tally.same(f"root {x}", r, slow.root(x))
+        tally.same(f"root {x} is the largest", r * r <= v < (r + 1) ** 2, True)
+        tally.same(f"steps to the root {x}", steps, len(above) + 1)
+        tally.same(f"first number for {x}", v < above[0] ** 2 <= 4 * v, True)
+        tally.same(f"numbers {above} for {x} fall to the root", [*above, last],
+                   sorted({*above, r}, reverse=True))
+        tally.same(f"number after the root {x}", new - r,
+                   1 if (r + 1) ** 2 - v == 1 else 0)
+
+
+def check_steps(tally, rng):
+    """Every number of steps from 2 to 7 is met, and no other but 0 for x = 0.
+    The first and the last argument of each number take it, and none of the
+    2000 beyond them does."""
+    tally.same("0 has no steps", root(0), (0, 0))
+    tally.same("numbers of steps", {*map(steps_to, roots_to_take(rng))},
+               {*FIRST_AND_LAST})
+    for steps, (first, last) in FIRST_AND_LAST.items():
+        tally.same(f"first and last of {steps} steps",
+                   (steps_to(first), steps_to(last)), (steps, steps))
+        for x in (*range(max(first - 2000, 1), first),
+                  *range(last + 1, min(last + 2000, M) + 1)):
+            tally.same(f"{x} has not {steps} steps", steps_to(x) != steps,
+                       True)
+    for x in SEVEN_STEPS:
+        tally.same(f"steps to the root {x}", steps_to(x), 7)
+
+
+def check_most_steps(tally, rng):
+    """No argument takes more than 7 steps, so none more than 8. The first
+    number is at most twice the exact root of v. A step from 1 + e times that
+    root leads to 1 + e * e / (2 + 2 * e) times it, and whole parts only make
+    it less. The exact root is below 2^28, so there comes a number less than
+    one above it; if that is not yet the whole root, the next one is, and the
+    step after it is the last."""
+    e = Fraction(1)
+    steps = 0
+    while e * 2**28 >= 1:
+        e = e * e / (2 + 2 * e)
+        steps += 1
+    tally.same("the most steps", steps + 2, 7)
 
 
 def check_formulas(tally, rng):
-    """Answers and admission against slow definitions, some with ties; an
-    admitted formula's answers are words, and its divisors never 0."""
+    """Answers, with their steps, and admission against slow definitions, some
+    with ties; an admitted formula's answers are words, and its divisors never
+    0."""
     for formula in (*(good_formula(rng, kind) for kind in KINDS * 300),
                     *(tied_formula(rng, *form) for form in OTHER_FORMS * 30)):
         tally.same(f"admission of {formula}", slow.admission(formula), 0)
@@ -165,7 +245,7 @@ def check_formulas(tally, rng):
             found = answer(formula, argument)
             tally.same(f"{formula} at {argument}", found,
                        slow.answer(formula, argument))
-            tally.same(f"{found} is a word", is_word(found), True)
+            tally.same(f"{found} is a word", is_word(found.word), True)
         changed = list(formula.words)
         for _ in range(3 if changed else 0):
             changed[rng.randrange(len(changed))] = word(rng)
@@ -186,7 +266,7 @@ def check_polynomials(tally, rng):
         formula = drawn._replace(lo=-a, hi=a)
         sheet = sheet_of([formula])
         for argument in (a, -a, 0, rng.randrange(-a, a + 1)):
-            found = evaluate(sheet, 1, argument)
+            found = evaluate(sheet, 1, argument).word
             met = slow.numbers_met(formula, argument)
             tally.same(f"{met} are words", all(map(is_word, met)), True)
             tally.same(f"{formula} at {argument} is near {found}",
@@ -204,13 +284,13 @@ def check_opposite_arguments(tally, rng):
                 sheet = sheet_of([rng.choice((
                     formula, formula._replace(lo=-x),
                     formula._replace(hi=x)))])
-                found = evaluate(sheet, 1, x)
-                tally.same(f"{formula} at {x}", found, slow.answer(formula, x))
+                found = evaluate(sheet, 1, x).word
+                tally.same(f"{formula} at {x}", found, slow.word(formula, x))
                 tally.same(f"{formula} at {-x}", evaluate(sheet, 1, -x),
-                           sign * found)
+                           (sign * found, 0))
                 tally.same(f"{formula} at {-x}, in doubles",
                            evaluate_double(sheet, 1, pattern_of(-x)),
-                           pattern_of(sign * found))
+                           (pattern_of(sign * found), 0))
     for powers in ((0, 1), (1, 1)) * 50:
         formula = formula_of_form(rng, RATIONAL, powers, 0)
         tally.same(f"admission of {formula}",
@@ -224,7 +304,7 @@ def check_turns_by_hand(tally, rng):
         for formula, angle, expected in cases:
             tally.same(f"{question.__name__} of {angle:08x} by hand",
                        outcome(question, sheet_of([formula]), 1, angle),
-                       expected)
+                       (expected, 0))
     for formulas, expected in ((FIT, 0), (UNFIT, 15)):
         for formula in formulas:
             sheet = sheet_of([formula])
@@ -251,7 +331,8 @@ def angles_to_turn(rng):
 
 
 def check_turns(tally, rng):
-    """Sine and cosine against slow definitions; they are words."""
+    """Sine and cosine, with no steps, against slow definitions; they are
+    words."""
     for formula in formulas_to_turn(rng):
         sheet = sheet_of([formula])
         for angle in angles_to_turn(rng):
@@ -260,7 +341,12 @@ def check_turns(tally, rng):
                 found = question(sheet, 1, angle)
                 tally.same(f"{question.__name__} of {formula} at {angle:08x}",
                            found, definition(formula, angle))
-                tally.same(f"{found} is a word", is_word(found), True)
+                tally.same(f"{found} is a word", is_word(found.word), True)
+
+
+def sine_and_cosine(sheet, angle):
+    """Their words."""
+    return sine(sheet, 1, angle).word, cosine(sheet, 1, angle).word
 
 
 def check_mirrored_angles(tally, rng):
@@ -270,21 +356,22 @@ def check_mirrored_angles(tally, rng):
     for formula in formulas_to_turn(rng):
         sheet = sheet_of([formula])
         for angle in (0, QUARTER, HALF_TURN, *angles_to_turn(rng)):
-            found = sine(sheet, 1, angle), cosine(sheet, 1, angle)
+            found = sine_and_cosine(sheet, angle)
             for mirrored, signs in ((angle + HALF_TURN, (-1, -1)),
                                     (HALF_TURN - angle, (1, -1)),
                                     (-angle, (-1, 1))):
                 image = wrapped(mirrored)
                 tally.same(f"{formula} at {angle:08x} and {image:08x}",
-                           (sine(sheet, 1, image), cosine(sheet, 1, image)),
+                           sine_and_cosine(sheet, image),
                            (signs[0] * found[0], signs[1] * found[1]))
-        at_one = evaluate(sheet, 1, ONE)
+        at_one = evaluate(sheet, 1, ONE).word
         for quarter, expected in enumerate((0, at_one, 0, -at_one)):
             angle = quarter * QUARTER
             tally.same(f"sine of {formula} at {angle:08x}",
-                       sine(sheet, 1, angle), expected)
+                       sine(sheet, 1, angle).word, expected)
             tally.same(f"cosine of {formula} a quarter earlier",
-                       cosine(sheet, 1, wrapped(angle - QUARTER)), expected)
+                       cosine(sheet, 1, wrapped(angle - QUARTER)).word,
+                       expected)
 
 
 def check_a_sine(tally, rng):
@@ -292,12 +379,12 @@ def check_a_sine(tally, rng):
     for a few steps, and the sine is one half at a twelfth of a turn."""
     sheet = sheet_of([SERIES])
     for angle in (*EDGE_ANGLES, *(rng.getrandbits(32) for _ in range(500))):
-        s, c = sine(sheet, 1, angle), cosine(sheet, 1, angle)
+        s, c = sine_and_cosine(sheet, angle)
         tally.same(f"squares at {angle:08x}, {s} and {c}",
                    abs(product(s, s) + product(c, c) - ONE) <= 8, True)
     twelfth = (1 << 32) // 12
     tally.same("sine at a twelfth",
-               abs(sine(sheet, 1, twelfth) - ONE // 2) <= 4, True)
+               abs(sine(sheet, 1, twelfth).word - ONE // 2) <= 4, True)
 
 
 def check_doubles(tally, rng):
@@ -475,6 +562,25 @@ def check_questions(tally, rng):
     tally.same("formula", outcome(formula_of, broken, 5), refused(1, 24))
 
 
+def check_steps_as_bytes(tally, rng):
+    """The steps after the word and after the pattern; 0 when refused. For 9 it
+    is 16384 (9216), 12800 (11796), 12298 (12278), 12288 (12288), 12288."""
+    sheet = framing(START, 1) + root_record(5, 4, 9) + framing(END, 1)
+    for question, expected in (
+            (ask_evaluate(sheet, 5, 9), "00 00000000 00300000 0400"),
+            (ask_evaluate(sheet, 5, 10), "0A 00000000 00000000 0000"),
+            (ask_evaluate(sheet, 4, 9), "0B 00000000 00000000 0000"),
+            (ask_evaluate(sheet[:-1], 5, 9), "01 18000000 00000000 0000"),
+            (ask_double(sheet, 5, pattern_of(9)),
+             "00 00000000 000000000000483F 0400"),
+            (ask_double(sheet, 5, pattern_of(10)),
+             "0A 00000000 0000000000000000 0000"),
+            (ask_double(sheet, 5, INFINITY),
+             "0D 00000000 0000000000000000 0000")):
+        tally.same("steps as bytes", answer_to(*question),
+                   bytes.fromhex(expected))
+
+
 def check_order_of_15(tally, rng):
     """15 after 11, and 11 after a sheet's own refusals, for every angle; a
     formula is judged only when it is asked for."""
@@ -499,10 +605,10 @@ def check_order_of_15(tally, rng):
                            outcome(question, given, number, angle), expected)
         for ask, question in ((ask_sine, sine), (ask_cosine, cosine)):
             tally.same("answered", answer_to(*ask(sheet, 7, angle)),
-                       bytes(5) + question(sheet, 7, angle).to_bytes(
-                           4, "little", signed=True))
+                       bytes(5) + question(sheet, 7, angle).word.to_bytes(
+                           4, "little", signed=True) + bytes(2))
             tally.same("refused", answer_to(*ask(sheet, 5, angle)),
-                       b"\x0f" + bytes(8))
+                       b"\x0f" + bytes(10))
 
 
 def check_ends(tally, rng):
@@ -525,7 +631,7 @@ def check_ends(tally, rng):
         for near, n in ((pattern - 1, towards_0), (pattern, tie)):
             tally.same(f"{halves} halves, ends {lo} and {hi}",
                        outcome(evaluate_double, sheet, 5, near),
-                       refused(10) if n is None else pattern_of(n))
+                       refused(10) if n is None else (pattern_of(n), 0))
         tally.same("far beyond",
                    outcome(evaluate_double, sheet, 5, INFINITY - 1),
                    refused(10))
@@ -623,12 +729,18 @@ def kinds_asked(question, content):
     return {formula_of(sheet, int.from_bytes(content[:2], "little")).kind}
 
 
+# Where an answer has its steps.
+STEPS_AT = {EVALUATE: 9, DOUBLE: 13, SINE: 9, COSINE: 9}
+
+
 def check_vectors(tally, rng):
     """The committed vectors are this oracle's answers, and every refusal that
-    a question has is among them, and every kind accepted or refused by 15."""
+    a question has is among them, every kind accepted or refused by 15, and
+    every number of steps."""
     packed = Path(__file__).with_name("vectors.xz").read_bytes()
     met = set()
     kinds = set()
+    steps = set()
     count = 0
     for question, content, found in taken_apart(lzma.decompress(packed)):
         tally.same(f"vector {count}", found, answer_to(question, content))
@@ -636,6 +748,8 @@ def check_vectors(tally, rng):
         if found[0] in (0, 15):
             kinds |= {(question, found[0], kind)
                       for kind in kinds_asked(question, content)}
+        if question in STEPS_AT:
+            steps.add((question, found[0] != 0, found[STEPS_AT[question]]))
         count += 1
     tally.same("at least 10,000 vectors", count >= 10000, True)
     tally.same("every kind in every question", kinds,
@@ -643,6 +757,11 @@ def check_vectors(tally, rng):
                   for kind in KINDS),
                 *((question, 15, kind) for question in (8, 9)
                   for kind in KINDS), (8, 0, ODD), (9, 0, ODD)})
+    tally.same("every number of steps", steps,
+               {*((question, False, taken) for question in (3, 4)
+                  for taken in FIRST_AND_LAST),
+                *((question, was_refused, 0) for question in STEPS_AT
+                  for was_refused in (False, True))})
     sheet = range(10)
     for question, numbers in (
             (1, sheet), (2, (*sheet, 11)), (3, (*sheet, 10, 11)),
@@ -654,10 +773,11 @@ def check_vectors(tally, rng):
             sorted(numbers))
 
 
-CHECKS = (check_by_hand, check_rounding, check_bounds_and_roots,
-          check_formulas, check_polynomials, check_opposite_arguments,
-          check_turns_by_hand, check_turns, check_mirrored_angles,
-          check_a_sine, check_doubles, check_order, check_questions,
+CHECKS = (check_by_hand, check_rounding, check_bounds, check_roots_by_hand,
+          check_roots, check_steps, check_most_steps, check_formulas,
+          check_polynomials, check_opposite_arguments, check_turns_by_hand,
+          check_turns, check_mirrored_angles, check_a_sine, check_doubles,
+          check_order, check_questions, check_steps_as_bytes,
           check_order_of_15, check_ends, check_round_trips,
           check_record_writer, check_sheet_writer, check_vectors)
 

@@ -1,7 +1,10 @@
 """The door for doubles (paper 01, 'Doubles at the desk').
 
 A double is its 64-bit pattern: 1 sign bit, 11 exponent bits, 52 fraction bits.
+The number of steps (request M-103) is given beside it, as in evaluation.
 """
+
+from typing import NamedTuple
 
 from evaluation import answer_inside
 from number import nearest
@@ -11,6 +14,13 @@ from sheet import formula_of
 FRACTION_BITS = 52
 BIAS = 1023
 NOT_FINITE = 0x7FF  # the exponent of infinities and of what is not a number
+
+
+class Shown(NamedTuple):
+    """An answer as the door gives it."""
+
+    pattern: int
+    steps: int
 
 
 def word_of(pattern):
@@ -50,7 +60,8 @@ def pattern_of(n, power=-24):
 def evaluate_double(sheet, number, pattern):
     """1 to 9, then 11, then 13, then 10."""
     formula = formula_of(sheet, number)
-    return pattern_of(answer_inside(formula, word_of(pattern)))
+    worked = answer_inside(formula, word_of(pattern))
+    return Shown(pattern_of(worked.word), worked.steps)
 
 
 def interval(sheet, number):

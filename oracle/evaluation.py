@@ -1,4 +1,7 @@
-"""Evaluation on words (paper 01, 'Refusal numbers and their order')."""
+"""Evaluation on words (paper 01, 'Refusal numbers and their order').
+
+The answer is a word with its number of steps beside it (request M-103).
+"""
 
 from formulas import answer
 from refusal import Refused
@@ -6,7 +9,7 @@ from sheet import formula_of
 
 
 def answer_inside(formula, argument):
-    """The answer word, or 10 for an argument outside lo..hi."""
+    """The answer, or 10 for an argument outside lo..hi."""
     if not formula.lo <= argument <= formula.hi:
         raise Refused(10)
     return answer(formula, argument)

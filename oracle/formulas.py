@@ -1,7 +1,7 @@
 """The six formula kinds: their shape, their answer and their admission.
 
 Paper 01, 'Formula kinds', 'Admission' and the table of 'Sheet layout'; the odd
-and the even polynomial are of request M-100.
+and the even polynomial are of request M-100, the steps of M-103.
 """
 
 from typing import NamedTuple
@@ -84,6 +84,13 @@ def values_are_good(formula):
 # Answers ('Formula kinds').
 
 
+class Worked(NamedTuple):
+    """An answer as it was worked out."""
+
+    word: int
+    steps: int  # of Heron's rule; 0 for every kind but the root
+
+
 def polynomial(words, x):
     """The walk over the coefficients; an odd or even formula takes it at s."""
     running = words[-1]
@@ -107,8 +114,8 @@ def fraction(words, depth, mode, x):
     return t
 
 
-def answer(formula, x):
-    """The answer of an admitted formula for a word x of its interval."""
+def stepless_word(formula, x):
+    """The answer word of a formula of any kind but the root."""
     words, p = formula.words, formula.p
     if formula.kind == POLYNOMIAL:
         return polynomial(words, x)
@@ -116,10 +123,15 @@ def answer(formula, x):
         return quotient(polynomial(words[:p], x), polynomial(words[p:], x))
     if formula.kind == FRACTION:
         return fraction(words, p, formula.mode, x)
-    if formula.kind == ROOT:
-        return root(x)
     even = polynomial(words, product(x, x))
     return product(even, x) if formula.kind == ODD else even
+
+
+def answer(formula, x):
+    """The answer of an admitted formula for a word x of its interval."""
+    if formula.kind == ROOT:
+        return Worked(*root(x))
+    return Worked(stepless_word(formula, x), steps=0)
 
 
 # Admission: each function gives 0, or the refusal 7 or 8 that it meets first.

@@ -1,5 +1,5 @@
 """Makers of words, formulas, angles and sheets for the vectors, from a
-random.Random.
+random.Random; arguments of roots, drawn or found.
 
 Only whole-number draws are used (getrandbits, randrange, choice).
 """
@@ -10,7 +10,8 @@ from typing import NamedTuple
 from formulas import (
     EVEN, FRACTION, ODD, POLYNOMIAL, RATIONAL, ROOT, SHAPES, Formula, bounds,
     factor, polynomial, verdict, word_count)
-from number import M, ONE, bound_product, bound_quotient, product, quotient
+from number import (
+    M, ONE, bound_product, bound_quotient, product, quotient, root)
 from sheet import END, START
 from turn import QUARTER, wrapped
 from writing import record_of, start_or_end
@@ -301,6 +302,56 @@ def angle_in(rng, quarter):
 def tied_angle_in(rng, quarter):
     """An angle whose f / 2^6 is a tie."""
     return quarter * QUARTER + 64 * rng.getrandbits(24) + 32
+
+
+# Arguments of roots, and the steps that they take (request M-103).
+
+# The smallest and the largest argument of each number of steps, and all those
+# of 7, found by trying every word above 0. None takes 1 step or more than 7.
+FIRST_AND_LAST = {
+    2: (16769025, 1073741823), 3: (3, 1073741808), 4: (2, 1071968237),
+    5: (1, M), 6: (4097, 2147476560), 7: (67108868, 1212153873)}
+SEVEN_STEPS = (
+    67108868, 268435464, 268435472, 268435480, 1073741840, 1073741856,
+    1073741872, 1073741888, 1073741904, 1073741920, 1107558335, 1107558465,
+    1141899231, 1141899297, 1212153839, 1212153873)
+
+
+def steps_to(x):
+    """The number of steps that the root of x takes."""
+    return root(x)[1]
+
+
+def word_of_digits(rng, digits):
+    """A word above 0 of so many binary digits."""
+    return 1 << digits - 1 | rng.getrandbits(digits - 1)
+
+
+def change_of_steps(rng, digits):
+    """A word of so many binary digits, at least 2, and the next one, which
+    take different numbers of steps."""
+    lower = upper = 0
+    while steps_to(lower) == steps_to(upper):
+        lower, upper = sorted(word_of_digits(rng, digits) for _ in range(2))
+    while upper - lower > 1:
+        between = (lower + upper) // 2
+        if steps_to(between) == steps_to(lower):
+            lower = between
+        else:
+            upper = between
+    return lower, upper
+
+
+def below_square(n, twos, c):
+    """The x whose v is less than the square of n * 2^(23 - twos) + j by j * j
+    only, where j is c * 2^twos."""
+    return (n * n << 22 - 2 * twos) + n * c
+
+
+# All words above 0 whose v is a square less one, where Heron's rule would
+# swing between two numbers.
+SQUARES_LESS_ONE = tuple(
+    below_square(n, 0, c) for n in range(1, 23) for c in (-1, 1))
 
 
 def good_formulas(rng, count):

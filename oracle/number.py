@@ -3,9 +3,8 @@
 A word is a whole number from -M to M and stands for itself divided by 2^24.
 All arithmetic is on whole numbers of any size: a product or quotient that is
 no word is given as the whole number it is. Admission keeps formulas from it.
+A root is worked by Heron's rule (request M-103).
 """
-
-from math import isqrt
 
 ONE = 1 << 24
 M = 2147483647  # the largest word
@@ -50,6 +49,30 @@ def bound_quotient(a, d):
     return rounded_up(a * ONE, d)
 
 
+def first_number(v):
+    """2 to the power b/2 rounded up, where v has b binary digits."""
+    return 1 << (v.bit_length() + 1) // 2
+
+
+def next_number(v, w):
+    """The whole part of half of w plus the whole part of v/w."""
+    return (w + v // w) // 2
+
+
+def heron(v):
+    """The root of v, above 0, and the number of steps: each replaces the old
+    number by a new one, until the new is not below the old. The old one is
+    then the root, and that last step is counted too."""
+    old = first_number(v)
+    new = next_number(v, old)
+    steps = 1
+    while new < old:
+        old, new = new, next_number(v, new)
+        steps += 1
+    return old, steps
+
+
 def root(x):
-    """The largest whole r with r*r not above x * 2^24 ('Formula kinds')."""
-    return isqrt(x * ONE)
+    """The largest whole r with r*r not above x * 2^24 ('Formula kinds'), and
+    the number of steps to it; for x = 0 there are none."""
+    return heron(x * ONE) if x != 0 else (0, 0)

@@ -15,6 +15,8 @@ from writing import write_record, write_sheet
 
 FIELDS = "<HHiiHHH32i"
 FIELD_WORDS = 32
+WORKED = "<iH"  # word, steps
+SHOWN = "<QH"  # pattern, steps
 
 (COUNT, FORMULA, EVALUATE, DOUBLE, INTERVAL, RECORD, SHEET, SINE,
  COSINE) = range(1, 10)
@@ -88,12 +90,12 @@ def formula_values(content):
 
 def evaluate_values(content):
     number, argument = unpack_from("<Hi", content)
-    return pack("<i", evaluate(content[6:], number, argument))
+    return pack(WORKED, *evaluate(content[6:], number, argument))
 
 
 def double_values(content):
     number, pattern = unpack_from("<HQ", content)
-    return pack("<Q", evaluate_double(content[10:], number, pattern))
+    return pack(SHOWN, *evaluate_double(content[10:], number, pattern))
 
 
 def interval_values(content):
@@ -121,12 +123,12 @@ def sheet_values(content):
 
 def sine_values(content):
     number, angle = unpack_from("<HI", content)
-    return pack("<i", sine(content[6:], number, angle))
+    return pack(WORKED, *sine(content[6:], number, angle))
 
 
 def cosine_values(content):
     number, angle = unpack_from("<HI", content)
-    return pack("<i", cosine(content[6:], number, angle))
+    return pack(WORKED, *cosine(content[6:], number, angle))
 
 
 VALUES = {
@@ -142,8 +144,9 @@ VALUES = {
 }
 
 # How long the values are; a writer's are as long as its buffer and 4 bytes.
-SIZES = {COUNT: 2, FORMULA: calcsize(FIELDS), EVALUATE: 4, DOUBLE: 8,
-         INTERVAL: 16, SINE: 4, COSINE: 4}
+SIZES = {COUNT: 2, FORMULA: calcsize(FIELDS), EVALUATE: calcsize(WORKED),
+         DOUBLE: calcsize(SHOWN), INTERVAL: 16, SINE: calcsize(WORKED),
+         COSINE: calcsize(WORKED)}
 
 
 def values_when_refused(question, content):

@@ -5,17 +5,25 @@ no arithmetic with the modules it is compared with.
 """
 
 from fractions import Fraction
+from math import isqrt
 
-from formulas import EVEN, FRACTION, ODD, POLYNOMIAL, POLYNOMIALS, RATIONAL
+from formulas import (
+    EVEN, FRACTION, ODD, POLYNOMIAL, POLYNOMIALS, RATIONAL, ROOT)
 
 STEPS = 2**24
 LARGEST = 2**31 - 1
 
 
+def downward(value):
+    """The largest whole number not above the value, which is 'the whole part'
+    of one not below 0."""
+    return value.numerator // value.denominator
+
+
 def nearest(value):
     """'Rounded to the nearest whole number'; of two equally near, the one that
     is further from zero ('a tie goes away from zero')."""
-    below = value.numerator // value.denominator
+    below = downward(value)
     above = below + 1
     down, up = value - below, above - value
     if down == up:
@@ -25,7 +33,7 @@ def nearest(value):
 
 def upward(value):
     """'The same with rounding up instead.'"""
-    below = value.numerator // value.denominator
+    below = downward(value)
     return below if below == value else below + 1
 
 
@@ -46,12 +54,26 @@ def bound_quotient(a, d):
 
 
 def root(x):
-    """'The largest whole r with r² not above x·2^24', bit after bit."""
-    r = 0
-    for bit in reversed(range(32)):
-        if (r + 2**bit) ** 2 <= x * STEPS:
-            r += 2**bit
-    return r
+    """'The largest whole r with r² not above x·2^24.'"""
+    return isqrt(x * STEPS)
+
+
+def numbers_of_heron(x):
+    """Every number w for x, above 0: 2 to the power b/2 rounded up, then the
+    new number of each step, 'until the new number is not below the old'."""
+    v = x * STEPS
+    w = [2 ** upward(Fraction(len(f"{v:b}"), 2))]
+    while len(w) == 1 or w[-1] < w[-2]:
+        taken = downward(Fraction(v, w[-1]))
+        w.append(downward(Fraction(w[-1] + taken, 2)))
+    return w
+
+
+def steps_of_heron(formula, x):
+    """One for every number but the first; 0 for x = 0 and for other kinds."""
+    if formula.kind != ROOT or x == 0:
+        return 0
+    return len(numbers_of_heron(x)) - 1
 
 
 def walk(c, x):
@@ -89,7 +111,7 @@ def factors(mode, depth, x, s):
     return {0: [x] * depth, 1: [s] * depth, 2: [x] + [s] * (depth - 1)}[mode]
 
 
-def answer(formula, x):
+def word(formula, x):
     words, p = formula.words, formula.p
     if formula.kind in POLYNOMIALS:
         return numbers_met(formula, x)[-1]
@@ -98,6 +120,11 @@ def answer(formula, x):
     if formula.kind == FRACTION:
         return fraction(words, factors(formula.mode, p, x, product(x, x)))
     return root(x)
+
+
+def answer(formula, x):
+    """The word, and the number of steps beside it."""
+    return word(formula, x), steps_of_heron(formula, x)
 
 
 def in_quarters(angle):

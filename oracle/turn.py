@@ -40,12 +40,13 @@ def fit_formula(sheet, number):
 
 
 def sine(sheet, number, angle):
-    """The odd formula's answer, negated in quarters 2 and 3. The argument lies
-    in the interval, so every angle is answered."""
+    """The odd formula's answer, its word negated in quarters 2 and 3. The
+    argument lies in the interval, so every angle is answered; no odd formula
+    takes steps."""
     formula = fit_formula(sheet, number)
     quarter, f = quarter_and_rest(angle)
     found = answer(formula, argument_at(quarter, f))
-    return -found if quarter in (2, 3) else found
+    return found._replace(word=-found.word) if quarter in (2, 3) else found
 
 
 def cosine(sheet, number, angle):

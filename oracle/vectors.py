@@ -11,6 +11,7 @@ from random import Random
 from struct import pack, unpack_from
 
 import groups_numbers
+import groups_roots
 import groups_sheets
 import groups_turns
 import groups_writers
@@ -19,7 +20,7 @@ from questions import answer_to
 SEED = 1967
 
 GROUPS = (*groups_sheets.GROUPS, *groups_numbers.GROUPS,
-          *groups_writers.GROUPS, *groups_turns.GROUPS)
+          *groups_writers.GROUPS, *groups_turns.GROUPS, *groups_roots.GROUPS)
 
 
 def vector(question, content):
