@@ -50,8 +50,8 @@ static void stop(const char *name, const char *why) {
 #define SAME_ANSWER(shape, rest) \
     static int same_##shape(const vp_##shape *a, const vp_##shape *b) { return SAME(refused) && SAME(place) && rest; }
 SAME_ANSWER(counted, SAME(count))
-SAME_ANSWER(worked, SAME(word))
-SAME_ANSWER(shown, SAME(value))
+SAME_ANSWER(worked, SAME(word) && SAME(steps))
+SAME_ANSWER(shown, SAME(value) && SAME(steps))
 SAME_ANSWER(ends, SAME(low) && SAME(high))
 SAME_ANSWER(written, SAME(length))
 SAME_ANSWER(found, SAME(fields.kind) && SAME(fields.number) && SAME(fields.lo) && SAME(fields.hi) && SAME(fields.p) && SAME(fields.q) &&
@@ -128,7 +128,7 @@ static const char *joined(const char *first, const char *second) {
 #define ALONE(f) f->alone.bytes, f->alone.length, f->number
 
 static void rows(int timing) {
-    const formula *polynomial = &formulas[POLYNOMIAL], *fraction = &formulas[FRACTION], *odd = &formulas[ODD];
+    const formula *polynomial = &formulas[POLYNOMIAL], *fraction = &formulas[FRACTION], *root = &formulas[ROOT], *odd = &formulas[ODD];
     const formula *f, *end = formulas + KINDS;
     ROW("reading 64 formulas", counted, count, WHOLE);
     ROW("writing 64 formulas", written, write_sheet, RUN, out, ROOM);
@@ -137,6 +137,7 @@ static void rows(int timing) {
     ROW(f->name, worked, evaluate, ALONE(f), f->arguments[i]);
     for (f = formulas; f < end; f++) ROW(joined(f->name, ", sheet of 64"), worked, evaluate, WHOLE, f->number, f->arguments[i]);
     ROW("double, polynomial", shown, evaluate_double, ALONE(polynomial), polynomial->doubles[i]);
+    ROW("double, root", shown, evaluate_double, ALONE(root), root->doubles[i]);
     ROW("sine, sheet of 1", worked, sine, ALONE(odd), angles[i]);
     ROW("cosine, sheet of 1", worked, cosine, ALONE(odd), angles[i]);
     ROW("interval, polynomial", ends, interval, ALONE(polynomial));
@@ -228,6 +229,21 @@ static void ties(void) {
     }
 }
 
+/* Roots beside each power of two: those that take no step and 2 to 7, the most, are among them, of which the rows have few. */
+static void roots(void) {
+    static formula root = {"roots", VP_ROOT, 1, {VP_ROOT, 1, 0, 2147483647, 0, 0, 0, {0}}};
+    const formula *f = &root;
+    prepare(&root);
+    for (int power = 3; power < 31; power++) {
+        for (int32_t x = (1 << power) - 8; x <= (1 << power) + 8; x++) {
+            vp_worked plain = plain_evaluate(ALONE(f), x), ours = vp_evaluate(ALONE(f), x);
+            judge(f->name, same_worked(&plain, &ours), ours.refused, 0);
+            vp_shown plain_shown = plain_evaluate_double(ALONE(f), x / 16777216.0), shown = vp_evaluate_double(ALONE(f), x / 16777216.0);
+            judge(f->name, same_shown(&plain_shown, &shown), shown.refused, 0);
+        }
+    }
+}
+
 /* Angles beside each eighth of a turn, the ties there among them, of an odd formula whose interval holds 0 to one, or just does not. */
 static void turns(void) {
     static formula turn = {"angles", VP_ODD, 1, {VP_ODD, 1, 0, 0, 2, 0, 0, {26353589, -10837489}}};
@@ -256,6 +272,7 @@ int main(int count, char **words) {
     ties();
     for (int i = 0; i < SLICE; i++) angles[i] = (uint32_t)drawn();
     turns();
+    roots();
     if (count == 2) rows(0);
     else while (pass++ < PASSES) row = 0, rows(1);
     return 0;

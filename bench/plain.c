@@ -194,24 +194,26 @@ static inline int32_t fraction(const uint8_t *r, int32_t x) {
     return t;
 }
 
-static inline int32_t heron(int32_t x) {
+/* By Heron's rule, whose steps are added to *steps. */
+static inline int32_t heron(int32_t x, uint16_t *steps) {
     if (x == 0) return 0;
     uint64_t v = (uint64_t)x << PLACES, w = 1ULL << ((65 - __builtin_clzll(v)) / 2);
     for (;;) {
         uint64_t next = (w + v / w) / 2;
+        ++*steps;
         if (w <= next) return (int32_t)w;
         w = next;
     }
 }
 
-static inline int32_t answer(const uint8_t *r, int32_t x) {
+static inline int32_t answer(const uint8_t *r, int32_t x, uint16_t *steps) {
     switch (u16(r + 4)) {
     case VP_POLYNOMIAL: return polynomial(r, x);
     case VP_RATIONAL: return rational(r, x);
     case VP_FRACTION: return fraction(r, x);
     case VP_ODD: return odd(r, x);
     case VP_EVEN: return even(r, x);
-    default: return heron(x);
+    default: return heron(x, steps);
     }
 }
 
@@ -225,46 +227,50 @@ vp_counted plain_count(const uint8_t *sheet, size_t length) {
 vp_worked plain_evaluate(const uint8_t *sheet, size_t length, uint16_t number, int32_t argument) {
     const uint8_t *r = 0;
     verdict v = check_sheet(sheet, length, number, &r);
-    if (v.refused) return (vp_worked){v.refused, v.place, 0};
-    if (!r) return (vp_worked){VP_NO_SUCH_FORMULA, 0, 0};
-    if (argument < i32(r + 8) || argument > i32(r + 12)) return (vp_worked){VP_ARGUMENT_OUTSIDE, 0, 0};
-    return (vp_worked){0, 0, answer(r, argument)};
+    if (v.refused) return (vp_worked){v.refused, v.place, 0, 0};
+    if (!r) return (vp_worked){VP_NO_SUCH_FORMULA, 0, 0, 0};
+    if (argument < i32(r + 8) || argument > i32(r + 12)) return (vp_worked){VP_ARGUMENT_OUTSIDE, 0, 0, 0};
+    uint16_t steps = 0;
+    int32_t word = answer(r, argument, &steps);
+    return (vp_worked){0, 0, word, steps};
 }
 
 vp_shown plain_evaluate_double(const uint8_t *sheet, size_t length, uint16_t number, double argument) {
     const uint8_t *r = 0;
     verdict v = check_sheet(sheet, length, number, &r);
-    if (v.refused) return (vp_shown){v.refused, v.place, 0};
-    if (!r) return (vp_shown){VP_NO_SUCH_FORMULA, 0, 0};
+    if (v.refused) return (vp_shown){v.refused, v.place, 0, 0};
+    if (!r) return (vp_shown){VP_NO_SUCH_FORMULA, 0, 0, 0};
     uint64_t b;
     memcpy(&b, &argument, 8);
     uint32_t e = b >> 52 & 0x7ff;
-    if (e == 0x7ff) return (vp_shown){VP_NOT_FINITE, 0, 0};
-    if (e >= 1075 - PLACES) return (vp_shown){VP_ARGUMENT_OUTSIDE, 0, 0};
+    if (e == 0x7ff) return (vp_shown){VP_NOT_FINITE, 0, 0, 0};
+    if (e >= 1075 - PLACES) return (vp_shown){VP_ARGUMENT_OUTSIDE, 0, 0, 0};
     wide z = 0;
     if (e >= 1022 - PLACES) {
         wide m = (wide)((b & 0xfffffffffffffULL) | 1ULL << 52);
         unsigned cut = 1075 - PLACES - e;
         z = (m + (1LL << (cut - 1))) >> cut;
-        if (z > MOST) return (vp_shown){VP_ARGUMENT_OUTSIDE, 0, 0};
+        if (z > MOST) return (vp_shown){VP_ARGUMENT_OUTSIDE, 0, 0, 0};
         if (b >> 63) z = -z;
     }
     int32_t x = (int32_t)z;
-    if (x < i32(r + 8) || x > i32(r + 12)) return (vp_shown){VP_ARGUMENT_OUTSIDE, 0, 0};
-    return (vp_shown){0, 0, answer(r, x) / (double)ONE};
+    if (x < i32(r + 8) || x > i32(r + 12)) return (vp_shown){VP_ARGUMENT_OUTSIDE, 0, 0, 0};
+    uint16_t steps = 0;
+    int32_t word = answer(r, x, &steps);
+    return (vp_shown){0, 0, word / (double)ONE, steps};
 }
 
 /* Of the angle's bits the highest is the sign, the next says whether the quarter is run through backwards. */
 static vp_worked sine(const uint8_t *sheet, size_t length, uint16_t number, uint32_t angle) {
     const uint8_t *r = 0;
     verdict v = check_sheet(sheet, length, number, &r);
-    if (v.refused) return (vp_worked){v.refused, v.place, 0};
-    if (!r) return (vp_worked){VP_NO_SUCH_FORMULA, 0, 0};
-    if (u16(r + 4) != VP_ODD || i32(r + 8) > 0 || i32(r + 12) < ONE) return (vp_worked){VP_NO_SINE, 0, 0};
+    if (v.refused) return (vp_worked){v.refused, v.place, 0, 0};
+    if (!r) return (vp_worked){VP_NO_SUCH_FORMULA, 0, 0, 0};
+    if (u16(r + 4) != VP_ODD || i32(r + 8) > 0 || i32(r + 12) < ONE) return (vp_worked){VP_NO_SINE, 0, 0, 0};
     uint32_t f = angle & (QUARTER - 1);
     if (angle & QUARTER) f = QUARTER - f;
     int32_t y = odd(r, (int32_t)((f + 32) >> 6));
-    return (vp_worked){0, 0, angle >> 31 ? -y : y};
+    return (vp_worked){0, 0, angle >> 31 ? -y : y, 0};
 }
 
 vp_worked plain_sine(const uint8_t *sheet, size_t length, uint16_t number, uint32_t angle) {
