@@ -5,6 +5,7 @@
 
 static int arguments_understood(const question *q) {
     int32_t word;
+    if (q->count == FIRST_ARGUMENT && q->options & STEPS) return missing(q, "an ARGUMENT for --steps");
     for (int i = FIRST_ARGUMENT; i < q->count; i++)
         if (!word_from(q->words[i], &word))
             return wrong(q, q->words[i], "is no argument: write a decimal as 0.5 or a word as 8388608w");
@@ -69,7 +70,7 @@ static int answer_all(const question *q, const sheet_file *sheet) {
 int ask(int count, char **words) {
     static sheet_file sheet;
     question q;
-    if (!understood(&q, "ask", count, words) || !arguments_understood(&q)) return 2;
+    if (!understood(&q, "ask", WORDS | STEPS, count, words) || !arguments_understood(&q)) return 2;
     read_sheet(&sheet, q.words[0]);
     if (sheet.reading != READ) return unread(&q, &sheet);
     vp_found found = vp_formula(sheet.bytes, sheet.length, q.number);

@@ -22,11 +22,23 @@ static int number_from(const char *text, uint16_t *number) {
     return value <= UINT16_MAX;
 }
 
-int understood(question *q, const char *verb, int count, char **words) {
+/* The option of that name, or 0. */
+static int option_from(const char *text) {
+    if (strcmp(text, "--words") == 0) return WORDS;
+    return strcmp(text, "--steps") == 0 ? STEPS : 0;
+}
+
+static int no_option(const question *q, const char *text, int has) {
+    return wrong(q, text, has & STEPS ? "is no option of it; there are --words and --steps"
+                                      : "is no option of it; there is --words");
+}
+
+int understood(question *q, const char *verb, int has, int count, char **words) {
     *q = (question){.verb = verb, .words = words};
     for (int i = 0; i < count; i++) {
-        if (strcmp(words[i], "--words") == 0) q->as_words = 1;
-        else if (strncmp(words[i], "--", 2) == 0) return wrong(q, words[i], "is no option of it; there is --words");
+        int option = option_from(words[i]) & has;
+        if (option) q->options |= option;
+        else if (strncmp(words[i], "--", 2) == 0) return no_option(q, words[i], has);
         else words[q->count++] = words[i];
     }
     if (q->count < FIRST_ARGUMENT) return missing(q, "FILE NUMBER");
@@ -36,7 +48,7 @@ int understood(question *q, const char *verb, int count, char **words) {
 void show(const question *q, int32_t word) {
     char text[DECIMAL_ROOM];
     decimal_from(word, text);
-    if (q->as_words) printf("%d", word);
+    if (q->options & WORDS) printf("%d", word);
     else printf("%s", text);
 }
 
@@ -60,6 +72,7 @@ int refused(const question *q, const char *argument, uint32_t number, uint64_t p
 int answered(const question *q, const char *argument, vp_worked answer) {
     if (answer.refused) return refused(q, argument, answer.refused, answer.place);
     show(q, answer.word);
+    if (q->options & STEPS) printf(" %u", answer.steps);
     putchar('\n');
     return 0;
 }

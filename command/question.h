@@ -4,24 +4,28 @@
 #include <stdint.h>
 #include "sheet_file.h"
 
+/* The options, as bits: --words, for answers as words; --steps, for the number of steps behind each. */
+enum { WORDS = 1, STEPS = 2 };
+
 /* A call's words, its options apart. */
 typedef struct {
     const char *verb;
-    int as_words, count;
+    int options, count;
     char **words;                      /* file, number, arguments or angles */
     uint16_t number;
 } question;
 
 enum { FIRST_ARGUMENT = 2 };           /* where they begin */
 
-/* Takes the options out of the words behind a verb, and judges the formula's number; false, and told, for a wrong call. */
-int understood(question *q, const char *verb, int count, char **words);
+/* Takes the options out of the words behind a verb, which has those of `has`, and judges the formula's number; false, and told,
+   for a wrong call. */
+int understood(question *q, const char *verb, int has, int count, char **words);
 
 /* Each tells of a wrong call, and gives false: a word and why it is wrong, or what is missing. */
 int wrong(const question *q, const char *text, const char *why);
 int missing(const question *q, const char *what);
 
-/* Prints a word as a decimal, or with --words as it is. */
+/* Prints a word as a decimal, or with WORDS as it is. */
 void show(const question *q, int32_t word);
 
 /* Each tells on both outputs what is not answered, as the listing says it and explained, and gives the status 1. `argument` is

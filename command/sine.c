@@ -19,7 +19,7 @@ static int angles_understood(const question *q) {
 static int answer_all(const char *verb, function *of, int count, char **words) {
     static sheet_file sheet;
     question q;
-    if (!understood(&q, verb, count, words) || !angles_understood(&q)) return 2;
+    if (!understood(&q, verb, WORDS, count, words) || !angles_understood(&q)) return 2;
     read_sheet(&sheet, q.words[0]);
     if (sheet.reading != READ) return unread(&q, &sheet);
     for (int i = FIRST_ARGUMENT; i < q.count; i++) {

@@ -30,9 +30,14 @@ extern "C" {
 
 /* The version: 10000 times the first number, 100 times the second, and the third. The first moves when programs have to be
    compiled anew (a struct or a function is not as it was), and the shared library's name moves with it; the second when something
-   is added, as a kind or a refusal, or an answer changes; the third when nothing of this is so. */
-#define VP_VERSION 10300
-#define VP_VERSION_STRING "1.3.0"
+   is added, as a kind or a refusal, or an answer changes; the third when nothing of this is so.
+
+   With 2.0.0 vp_worked and vp_shown have `steps`. vp_worked keeps its 24 bytes, and a program compiled with an older header still
+   reads its word. But vp_shown grows from 24 bytes to 32, and is returned in memory that the caller lends: vp_evaluate_double
+   would write beyond the struct of such a program. So the shared library is libvalvepigeon.so.2 now, and the loader does not put
+   the two together; a program that has the archive has to be compiled anew. */
+#define VP_VERSION 20000
+#define VP_VERSION_STRING "2.0.0"
 
 /* Sizes: the most bytes of a record, the bytes that a sheet adds to its run of records, and the most formulas of a sheet. */
 #define VP_LONGEST_RECORD 120
@@ -101,18 +106,20 @@ typedef struct {
     vp_fields fields;
 } vp_found;
 
-/* A formula's answer, a word. */
+/* A formula's answer, a word; and how many steps Heron's rule took to it, where it is a root, as vp_evaluate says. */
 typedef struct {
     uint32_t refused;
     uint64_t place;
     int32_t word;
+    uint16_t steps;
 } vp_worked;
 
-/* A formula's answer as a double: exactly the answer word divided by 2^24; zero is plus zero. */
+/* A formula's answer as a double: exactly the answer word divided by 2^24; zero is plus zero. `steps` is as above. */
 typedef struct {
     uint32_t refused;
     uint64_t place;
     double value;
+    uint16_t steps;
 } vp_shown;
 
 /* A formula's interval as two doubles, low end and high end, each exactly its word divided by 2^24. */
@@ -135,12 +142,17 @@ vp_counted vp_count(const uint8_t *sheet, size_t length);
 /* The sheet's formula of that number. Refusals 1 to 9, then 11. */
 vp_found vp_formula(const uint8_t *sheet, size_t length, uint16_t number);
 
-/* What the sheet's formula of that number answers at `argument`, a word: the word that the rule on paper gives, step by step,
-   each product and quotient rounded to the nearest whole number, a tie going away from zero. Refusals 1 to 9, then 11, 10. */
+/* What the sheet's formula of that number answers at `argument`, a word: the word that the rule on paper gives, each product and
+   quotient rounded to the nearest whole number, a tie going away from zero. Refusals 1 to 9, then 11, 10.
+
+   A root is worked by Heron's rule. With v the argument times 2^24 and b the number of v's binary digits, it begins with 2 to the
+   power of b/2, that exponent rounded up; each step replaces the number w by the whole part of half of (w plus the whole part of
+   v/w), until the new number is not below the old, which is then the root. `steps` is the number of these steps, the last one
+   included, and is at most 7. It is 0 for the argument 0, and for a formula of every other kind. */
 vp_worked vp_evaluate(const uint8_t *sheet, size_t length, uint16_t number, int32_t argument);
 
-/* The same for a double. The argument's exact value times 2^24 is rounded as a product is; where the rounded value is no word
-   or lies outside the interval, 10. Refusals 1 to 9, then 11, 13, 10. */
+/* The same for a double, `steps` included. The argument's exact value times 2^24 is rounded as a product is; where the rounded
+   value is no word or lies outside the interval, 10. Refusals 1 to 9, then 11, 13, 10. */
 vp_shown vp_evaluate_double(const uint8_t *sheet, size_t length, uint16_t number, double argument);
 
 /* The sine of an angle, by the sheet's formula of that number, which has to be of the kind odd and to hold 0 to one in its
@@ -148,11 +160,11 @@ vp_shown vp_evaluate_double(const uint8_t *sheet, size_t length, uint16_t number
    first quarter of a turn it answers at the angle divided by 2^6, rounded as a product is, so that a quarter is one; in the second
    as at half a turn minus the angle; in the third and the fourth the answer is that at half a turn less, negated. So for every
    angle, exactly: half a turn more negates the sine, half a turn minus the angle keeps it, and the negated angle negates it.
-   Refusals 1 to 9, then 11, 15; no angle is refused. */
+   `steps` is 0. Refusals 1 to 9, then 11, 15; no angle is refused. */
 vp_worked vp_sine(const uint8_t *sheet, size_t length, uint16_t number, uint32_t angle);
 
 /* The cosine of an angle: the sine of the angle and a quarter more. So, exactly, the negated angle keeps it, and half a turn more
-   negates it. Refusals as above. */
+   negates it. `steps` and refusals as above. */
 vp_worked vp_cosine(const uint8_t *sheet, size_t length, uint16_t number, uint32_t angle);
 
 /* The interval of the sheet's formula of that number. Refusals 1 to 9, then 11. */

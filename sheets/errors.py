@@ -90,7 +90,7 @@ def points(printed, count):
         x = word / ONE
         yield Point(x, value_of(printed.function, function, x),
                     value_of("the printed formula", own, x),
-                    answer_inside(formula, word))
+                    answer_inside(formula, word).word)
 
 
 def bound_at(printed, true):

@@ -41,7 +41,7 @@ class Tally:
 def asked(sheet, number, argument):
     """The answer word, or the refusal in words."""
     try:
-        return evaluate(sheet, number, argument)
+        return evaluate(sheet, number, argument).word
     except Refused as refusal:
         return str(refusal)
 
@@ -67,7 +67,7 @@ def check_answers(tally, all_printed):
             for x in arguments(lo, hi, 5):
                 tally.hold(f"{name} {number}: answer at {x}",
                            asked(sheet, number, x)
-                           == answer_inside(formula, x))
+                           == answer_inside(formula, x).word)
             for x in lo - 1, hi + 1:
                 tally.hold(f"{name} {number}: refused at {x}",
                            asked(sheet, number, x) == "refused 10 at 0")

@@ -123,7 +123,7 @@ def main():
         put(folder / f"{verb}-{number}.args",
             [verb, sheet, number, *asked] + ["--words"] * as_words)
         put(folder / f"{verb}-{number}.out",
-            [shown(function(content, number, parts[text]), as_words)
+            [shown(function(content, number, parts[text]).word, as_words)
              for text in asked])
 
 

@@ -17,12 +17,14 @@ sys.path.append(str(ROOT / "oracle"))
 
 from evaluation import evaluate
 from formulas import FRACTION, POLYNOMIALS, RATIONAL
-from listings import NAMES, ODD_AND_EVEN, polynomial, sheet
+from listings import NAMES, ODD_AND_EVEN, polynomial, root, sheet
 from number import M, ONE
 from refusal import Refused
 from sheet import formula_of, read
 
 HALF_STEP = Fraction(1, 2 * ONE)
+WORDS, STEPS = "--words", "--steps"
+EVERY_WAY = (), (WORDS,), (STEPS,), (WORDS, STEPS)
 
 
 def decimal(value):
@@ -44,11 +46,13 @@ def word_of(text):
     return -size if value < 0 else size
 
 
-def answered(content, number, text, as_words):
+def answered(content, number, text, options):
     try:
-        return shown(evaluate(content, number, word_of(text)), as_words)
+        answer = evaluate(content, number, word_of(text))
     except Refused as refusal:
         return str(refusal)
+    line = shown(answer.word, WORDS in options)
+    return f"{line} {answer.steps}" if STEPS in options else line
 
 
 def fields(formula, as_words):
@@ -91,6 +95,11 @@ TYPED = [
     for sign in ("", "-") for tail in ("", "0", "0" * 40 + "1")
 ] + ["0.0000000298023223876953124999999", "-0.0000000298023223876953124999999"]
 
+# A root of every word that has one, and words that lie beside powers of two,
+# where the most and the fewest steps are taken, the 7 of 67108868 among them.
+ROOTS = sheet(root(1, 0, M))
+ROOTED = [f"{2 ** power + i}w" for power in range(31) for i in range(-8, 9)]
+
 
 def about(f, path):
     """Questions about a formula of a sheet: its ends, what lies beside them, by
@@ -102,17 +111,20 @@ def about(f, path):
     asked += [decimal(Fraction(f.hi, ONE)),
               decimal(Fraction(f.lo, ONE) - HALF_STEP),
               decimal(Fraction(f.hi, ONE) + HALF_STEP)]
-    for as_words in (False, True):
-        name = f"{f.number}-{'words' if as_words else 'decimals'}"
-        yield name, path, f.number, asked, as_words
-        yield name + "-fields", path, f.number, [], as_words
+    for options in EVERY_WAY:
+        yield str(f.number), path, f.number, asked, options
+    for options in (), (WORDS,):
+        yield f"{f.number}-fields", path, f.number, [], options
 
 
 def cases(folder):
-    itself = folder / "it self.sheet"
+    """Name, sheet, number, arguments and options of each."""
+    itself, roots = folder / "it self.sheet", folder / "roots.sheet"
     itself.write_bytes(ITSELF)
-    yield "typed", itself, 1, TYPED, False
-    yield "typed-words", itself, 1, TYPED, True
+    roots.write_bytes(ROOTS)
+    for options in EVERY_WAY:
+        yield "typed", itself, 1, TYPED, options
+        yield "rooted", roots, 1, ROOTED, options
     ready = ROOT / "sheets" / "all.sheet"
     seen = set()
     for f in read(ready.read_bytes()):
@@ -127,13 +139,14 @@ def cases(folder):
 
 def main():
     folder = Path(sys.argv[1])
-    for name, path, number, asked, as_words in cases(folder):
+    for name, path, number, asked, options in cases(folder):
         content = path.read_bytes()
         if asked:
-            lines = [answered(content, number, a, as_words) for a in asked]
+            lines = [answered(content, number, a, options) for a in asked]
         else:
-            lines = fields(formula_of(content, number), as_words)
-        words = [str(path), str(number), *asked] + ["--words"] * as_words
+            lines = fields(formula_of(content, number), WORDS in options)
+        words = [str(path), str(number), *asked, *options]
+        name += "".join(options)
         (folder / f"{name}.args").write_text("\n".join(words) + "\n")
         (folder / f"{name}.out").write_text("\n".join(lines) + "\n")
 

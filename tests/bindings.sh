@@ -4,8 +4,9 @@
 set -u
 cd "$(dirname "$0")/.." || exit 2
 . tests/lib.sh
-export PYTHONDONTWRITEBYTECODE=1 PIP_CONFIG_FILE=/dev/null CARGO_TARGET_DIR=$room/cargo RUSTFLAGS=-Dwarnings
+export PYTHONDONTWRITEBYTECODE=1 PIP_CONFIG_FILE=/dev/null RUSTFLAGS=-Dwarnings
 unset VALVEPIGEON_LIBRARY VALVEPIGEON_LIBRARY_DIR
+version=$(sed -n 's/^#define VP_VERSION_STRING "\(.*\)"/\1/p' include/valvepigeon.h)
 
 here() { command -v "$@" >"$room/where"; } # PROGRAM...: one of them is on the path
 rust_version=$(rustc --version 2>"$room/where" | sed -n 's/^rustc 1[.]\([0-9]*\)[.].*/\1/p')
@@ -50,11 +51,17 @@ installed() {
         [ -f "$room/site/valvepigeon/libvalvepigeon.so" ] && tests_away PYTHONPATH="$room/site"
 }
 
-# A release, with a blank in its name: lib/ and bindings/. Elsewhere a package alone.
-release="$room/the release" alone=$room/alone
+# A release, with a blank in its name: lib/ and bindings/. Elsewhere a package alone, and an older library.
+release="$room/the release" alone=$room/alone older=$room/older
+
+# The library in a folder where pkg-config knows it by a version.
+known() { # FOLDER VERSION
+    mkdir -p "$1/lib/pkgconfig" && cp target/staticlib/libvalvepigeon.* "$1/lib"
+    printf '%s\n' 'Name: valvepigeon' 'Description: for the test' "Version: $2" >"$1/lib/pkgconfig/valvepigeon.pc"
+}
 
 call_python() {
-    cp target/staticlib/libvalvepigeon.so "$room/named.so" && cp target/staticlib/libvalvepigeon.so "$room/libvalvepigeon.so.1"
+    cp target/staticlib/libvalvepigeon.so "$room/named.so" && cp target/staticlib/libvalvepigeon.so "$room/libvalvepigeon.so.${version%%.*}"
     right 'bindings/python in the repository' python3 bindings/python/test.py
     right 'bindings/python in a release' tests_away PYTHONPATH="$release/bindings/python"
     right 'bindings/python by the variable' tests_away PYTHONPATH="$alone/python" VALVEPIGEON_LIBRARY="$room/named.so"
@@ -66,16 +73,19 @@ call_python() {
     fi
 }
 
+# Each call begins from nothing: cargo would take the package in one folder for what it has built of it in another.
 cargo_in() { # FOLDER WORD...
     local folder=$1
     shift
-    cargo "$@" --offline --locked --manifest-path "$folder/Cargo.toml"
+    cargo "$@" --offline --locked --target-dir "$(mktemp -d -p "$room")" --manifest-path "$folder/Cargo.toml"
 }
 
 call_rust() {
     right 'bindings/rust in the repository' cargo_in bindings/rust test
     right 'bindings/rust in a release' cargo_in "$release/bindings/rust" build
     if here pkg-config; then
+        known "$older" 1.3.0
+        PKG_CONFIG_PATH="$older/lib/pkgconfig" wrong 'bindings/rust with an older library' 101 'run ./build-library' cargo_in "$alone/rust" build
         PKG_CONFIG_PATH="$release/lib/pkgconfig" right 'bindings/rust by pkg-config' cargo_in "$alone/rust" build
     else
         echo 'skipped: bindings/rust by pkg-config, which is not here'
@@ -85,8 +95,7 @@ call_rust() {
 
 if [ "$(uname -m)" = x86_64 ]; then
     right './build-library' ./build-library
-    mkdir -p "$release/lib/pkgconfig" && cp target/staticlib/libvalvepigeon.* "$release/lib" && cp -R bindings "$release" && cp -R bindings "$alone"
-    printf '%s\n' 'Name: valvepigeon' 'Description: for the test' 'Version: 1' >"$release/lib/pkgconfig/valvepigeon.pc"
+    known "$release" "$version" && cp -R bindings "$release" && cp -R bindings "$alone"
     if [ -f target/staticlib/libvalvepigeon.so ]; then call_python; else echo 'skipped: the calls of bindings/python, no shared library is here'; fi
     if here cargo && rust_since 82; then call_rust; else echo 'skipped: the calls of bindings/rust, no cargo from 1.82 on or no linker is here'; fi
 else

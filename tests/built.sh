@@ -102,9 +102,12 @@ else
     chmod -R u+w "$copy"
 fi
 
-# ---- what is built is gone, or is something else: it is built again
+# ---- what is built is gone, or is something else: it is built again, and the shared library has no name of an earlier version
 echo other >"$copy/target/staticlib/libvalvepigeon.a"
+ln -s libvalvepigeon.so "$copy/target/staticlib/libvalvepigeon.so.0"
 lists 'another archive'
+is 'the names of the shared library' "$(cd "$copy/target/staticlib" && echo libvalvepigeon.so.*)" \
+    "libvalvepigeon.so.$(sed -n 's/^#define VP_VERSION_STRING "\([0-9]*\).*/\1/p' include/valvepigeon.h)"
 rm "$copy/target/command/verbs"
 lists 'a program is gone'
 is 'twice something else: what rt was called for' "$(calls)" 'check staticlib check staticlib '

@@ -1,6 +1,6 @@
-/* Puts the paper's hand-checked rows that are not proved, rows of angles, and every vector of a file (oracle/README.md has its
-   layout) to the library through its C interface, and compares the answers. For each group it prints how many agree; a
-   disagreement is printed with its vector. The exit status is 0 only if all agree and no group is empty. */
+/* Puts the paper's hand-checked rows that are not proved, rows of a root's steps and of angles, and every vector of a file
+   (oracle/README.md has its layout) to the library through its C interface, and compares the answers. For each group it prints how
+   many agree; a disagreement is printed with its vector. The exit status is 0 only if all agree and no group is empty. */
 #include <stdint.h>
 #include <stdio.h>
 #include <stdlib.h>
@@ -118,10 +118,12 @@ static void answer_board(int group, const uint8_t *q, size_t n) {
         vp_worked r = vp_evaluate(q + 6, n - 6, (uint16_t)get(q, 2), (int32_t)get(q + 2, 4));
         put_head(r.refused, r.place);
         put((uint32_t)r.word, 4);
+        put(r.steps, 2);
     } else {
         vp_shown r = vp_evaluate_double(q + 10, n - 10, (uint16_t)get(q, 2), get_double(q + 2));
         put_head(r.refused, r.place);
         put_double(r.value);
+        put(r.steps, 2);
     }
 }
 
@@ -130,6 +132,7 @@ static void answer_angle(int group, const uint8_t *q, size_t n) {
     vp_worked r = function(q + 6, n - 6, (uint16_t)get(q, 2), (uint32_t)get(q + 2, 4));
     put_head(r.refused, r.place);
     put((uint32_t)r.word, 4);
+    put(r.steps, 2);
 }
 
 static void answer_writer(int group, const uint8_t *q, size_t n) {
@@ -174,7 +177,7 @@ static void compare(int group, unsigned long number, int question, const uint8_t
     hex("got     ", got, got_length);
 }
 
-/* ---- the rows, as vectors in hexadecimal: the paper's, then those of angles */
+/* ---- the rows, as vectors in hexadecimal: the paper's, then those of a root's steps and of angles */
 static uint8_t row_question[256], row_answer[256];
 
 static size_t from_hex(uint8_t *to, const char *text) {
@@ -191,7 +194,9 @@ static size_t from_hex(uint8_t *to, const char *text) {
 
 #define START "08000000 0100 0100 "
 #define END "08000000 ffff 0100"
-#define ROOT "10000000 1300 0100 00000000 00000002 "
+#define ROOT_TO(hi) "10000000 1300 0100 00000000 " hi
+#define ROOT ROOT_TO("00000002 ")
+#define EVERY_ROOT START ROOT_TO("ffffff7f ") END
 /* 120 + 60x + 12x^2 + x^3 over its mirror on [-1, 1] */
 #define CUBIC_WORDS "00000078 0000003c 0000000c 00000001 00000078 000000c4 0000000c 000000ff "
 #define CUBIC "34000000 1100 0100 000000ff 00000001 0400 0400 " CUBIC_WORDS
@@ -205,7 +210,8 @@ static size_t from_hex(uint8_t *to, const char *text) {
 #define AT_HALF_NEGATED "555585ff"
 #define EVEN START "18000000 1500 0100 00000000 00000001 00000001 5555d5ff " END
 #define ACCEPTED "00 00000000 "
-#define NO_SINE "0f 00000000 00000000"
+#define STEPS(n) " 0" #n "00"
+#define NO_SINE "0f 00000000 00000000" STEPS(0)
 #define FOUR_ZEROS "00000000 00000000 00000000 00000000 "
 #define ZEROS_24 FOUR_ZEROS FOUR_ZEROS FOUR_ZEROS FOUR_ZEROS FOUR_ZEROS FOUR_ZEROS
 #define ZEROS_32 ZEROS_24 FOUR_ZEROS FOUR_ZEROS
@@ -213,51 +219,70 @@ static size_t from_hex(uint8_t *to, const char *text) {
 
 static const struct { int question; const char *asked, *answered; } rows[] = {
     {COUNT, START CUBIC END, "07 08000000 0000"},
-    {EVALUATE, "0100 00000000 " START CUBIC END, "07 08000000 00000000"},
+    {EVALUATE, "0100 00000000 " START CUBIC END, "07 08000000 00000000" STEPS(0)},
     {RECORD, "1100 0100 000000ff 00000001 0400 0400 0000 " CUBIC_WORDS ZEROS_24 "0000", "07 00000000 00000000"},
     {SHEET, "0000 " CUBIC, "07 08000000 00000000"},
     {COUNT, "", "01 00000000 0000"},
     {FORMULA, "0100", "01 00000000 " NO_FIELDS},
-    {EVALUATE, "0100 00000000", "01 00000000 00000000"},
-    {DOUBLE, "0100 0000000000000000", "01 00000000 0000000000000000"},
+    {EVALUATE, "0100 00000000", "01 00000000 00000000" STEPS(0)},
+    {DOUBLE, "0100 0000000000000000", "01 00000000 0000000000000000" STEPS(0)},
     {INTERVAL, "0100", "01 00000000 0000000000000000 0000000000000000"},
     {COUNT, START ROOT END, ACCEPTED "0100"},
     {FORMULA, "0100 " START ROOT END, ACCEPTED "1300 0100 00000000 00000002 0000 0000 0000 " ZEROS_32},
-    {EVALUATE, "0100 00000002 " START ROOT END, ACCEPTED "e6096a01"},
+    {EVALUATE, "0100 00000002 " START ROOT END, ACCEPTED "e6096a01" STEPS(5)},
     {INTERVAL, "0100 " START ROOT END, ACCEPTED "0000000000000000 0000000000000040"},
     {SHEET, "2000 " ROOT, ACCEPTED "20000000 " START ROOT END},
     {COUNT, START ROOT, "01 18000000 0000"},
     {COUNT, START ROOT "08000000 ffff 01", "01 18000000 0000"},
     {COUNT, START ROOT "00000000 0000 0000", "02 18000000 0000"},
-    {SINE, "0100 00000000 " ODD, ACCEPTED "00000000"},
-    {SINE, "0100 00000040 " ODD, ACCEPTED AT_ONE},                  /* a quarter: f becomes 2^30 */
-    {SINE, "0100 00000080 " ODD, ACCEPTED "00000000"},
-    {SINE, "0100 000000c0 " ODD, ACCEPTED AT_ONE_NEGATED},
-    {SINE, "0100 00000020 " ODD, ACCEPTED AT_HALF},                 /* the middle of each quarter */
-    {SINE, "0100 00000060 " ODD, ACCEPTED AT_HALF},
-    {SINE, "0100 000000a0 " ODD, ACCEPTED AT_HALF_NEGATED},
-    {SINE, "0100 000000e0 " ODD, ACCEPTED AT_HALF_NEGATED},
-    {SINE, "0100 1f000000 " ODD, ACCEPTED "00000000"},              /* 31/64, and the tie 32/64 */
-    {SINE, "0100 20000000 " ODD, ACCEPTED "01000000"},
-    {SINE, "0100 60000000 " ODD, ACCEPTED "02000000"},              /* 96/64 */
-    {SINE, "0100 e0ffff7f " ODD, ACCEPTED "01000000"},              /* 32 before each half turn, and behind the first */
-    {SINE, "0100 e0ffffff " ODD, ACCEPTED "ffffffff"},
-    {SINE, "0100 20000080 " ODD, ACCEPTED "ffffffff"},
-    {SINE, "0100 e0ffff3f " ODD, ACCEPTED AT_ONE},                  /* 32 before and behind a quarter: one less half a step */
-    {SINE, "0100 20000040 " ODD, ACCEPTED AT_ONE},
-    {COSINE, "0100 00000000 " ODD, ACCEPTED AT_ONE},
-    {COSINE, "0100 00000040 " ODD, ACCEPTED "00000000"},
-    {COSINE, "0100 00000080 " ODD, ACCEPTED AT_ONE_NEGATED},
-    {COSINE, "0100 000000c0 " ODD, ACCEPTED "00000000"},            /* the sum wraps */
-    {COSINE, "0100 200000c0 " ODD, ACCEPTED "01000000"},
-    {COSINE, "0100 000000e0 " ODD, ACCEPTED AT_HALF},
+    /* roots with the numbers of Heron's rule, one for each step, of which the last is the root */
+    {EVALUATE, "0100 00000000 " EVERY_ROOT, ACCEPTED "00000000" STEPS(0)},
+    {EVALUATE, "0100 ffffff00 " EVERY_ROOT, ACCEPTED "ffffff00" STEPS(2)},      /* 16777216, 16777215 */
+    {EVALUATE, "0100 03000000 " EVERY_ROOT, ACCEPTED "b61b0000" STEPS(3)},      /* 8192, 7168, 7094 */
+    {EVALUATE, "0100 02000000 " EVERY_ROOT, ACCEPTED "a0160000" STEPS(4)},      /* 8192, 6144, 5802, 5792 */
+    {EVALUATE, "0100 01000000 " EVERY_ROOT, ACCEPTED "00100000" STEPS(5)},      /* 8192, 5120, 4198, 4097, 4096 */
+    {EVALUATE, "0100 01100000 " EVERY_ROOT, ACCEPTED "1f000400" STEPS(6)},      /* 524288, 327696, 268726, 262255, 262176, 262175 */
+    /* the most: v is 33554433 squared less one, and they are 67108864, 41943040, 34393293, 33564662, 33554434, 33554433, 33554432 */
+    {EVALUATE, "0100 04000004 " EVERY_ROOT, ACCEPTED "00000002" STEPS(7)},
+    {DOUBLE, "0100 0000001000001040 " EVERY_ROOT, ACCEPTED "0000000000000040" STEPS(7)},
+    {DOUBLE, "0100 0000000000000040 " EVERY_ROOT, ACCEPTED "000000609ea0f63f" STEPS(5)},
+    {DOUBLE, "0100 0000000000000080 " EVERY_ROOT, ACCEPTED "0000000000000000" STEPS(0)},    /* -0.0 */
+    /* refused by 10, 13 and 11; and a formula of another kind */
+    {EVALUATE, "0100 ffffffff " EVERY_ROOT, "0a 00000000 00000000" STEPS(0)},
+    {DOUBLE, "0100 000000000000f0bf " EVERY_ROOT, "0a 00000000 0000000000000000" STEPS(0)},
+    {DOUBLE, "0100 000000000000f87f " EVERY_ROOT, "0d 00000000 0000000000000000" STEPS(0)},
+    {EVALUATE, "0200 01000000 " EVERY_ROOT, "0b 00000000 00000000" STEPS(0)},
+    {EVALUATE, "0100 00008000 " ODD, ACCEPTED AT_HALF STEPS(0)},
+    {DOUBLE, "0100 000000000000e03f " ODD, ACCEPTED "000000c0aaaade3f" STEPS(0)},
+    {SINE, "0100 00000000 " ODD, ACCEPTED "00000000" STEPS(0)},
+    {SINE, "0100 00000040 " ODD, ACCEPTED AT_ONE STEPS(0)},                     /* a quarter: f becomes 2^30 */
+    {SINE, "0100 00000080 " ODD, ACCEPTED "00000000" STEPS(0)},
+    {SINE, "0100 000000c0 " ODD, ACCEPTED AT_ONE_NEGATED STEPS(0)},
+    {SINE, "0100 00000020 " ODD, ACCEPTED AT_HALF STEPS(0)},                    /* the middle of each quarter */
+    {SINE, "0100 00000060 " ODD, ACCEPTED AT_HALF STEPS(0)},
+    {SINE, "0100 000000a0 " ODD, ACCEPTED AT_HALF_NEGATED STEPS(0)},
+    {SINE, "0100 000000e0 " ODD, ACCEPTED AT_HALF_NEGATED STEPS(0)},
+    {SINE, "0100 1f000000 " ODD, ACCEPTED "00000000" STEPS(0)},                 /* 31/64, and the tie 32/64 */
+    {SINE, "0100 20000000 " ODD, ACCEPTED "01000000" STEPS(0)},
+    {SINE, "0100 60000000 " ODD, ACCEPTED "02000000" STEPS(0)},                 /* 96/64 */
+    {SINE, "0100 e0ffff7f " ODD, ACCEPTED "01000000" STEPS(0)},                 /* 32 before each half turn, and behind the first */
+    {SINE, "0100 e0ffffff " ODD, ACCEPTED "ffffffff" STEPS(0)},
+    {SINE, "0100 20000080 " ODD, ACCEPTED "ffffffff" STEPS(0)},
+    {SINE, "0100 e0ffff3f " ODD, ACCEPTED AT_ONE STEPS(0)},                     /* 32 before and behind a quarter: one less half a step */
+    {SINE, "0100 20000040 " ODD, ACCEPTED AT_ONE STEPS(0)},
+    {COSINE, "0100 00000000 " ODD, ACCEPTED AT_ONE STEPS(0)},
+    {COSINE, "0100 00000040 " ODD, ACCEPTED "00000000" STEPS(0)},
+    {COSINE, "0100 00000080 " ODD, ACCEPTED AT_ONE_NEGATED STEPS(0)},
+    {COSINE, "0100 000000c0 " ODD, ACCEPTED "00000000" STEPS(0)},               /* the sum wraps */
+    {COSINE, "0100 200000c0 " ODD, ACCEPTED "01000000" STEPS(0)},
+    {COSINE, "0100 000000e0 " ODD, ACCEPTED AT_HALF STEPS(0)},
     {SINE, "0100 00000000 " ODD_FROM("01000000 ", "00000001 "), NO_SINE},
     {SINE, "0100 00000000 " ODD_FROM("00000000 ", "ffffff00 "), NO_SINE},
-    {SINE, "0100 00000080 " ODD_FROM("00000080 ", "00000001 "), "06 08000000 00000000"},
+    {SINE, "0100 00000080 " ODD_FROM("00000080 ", "00000001 "), "06 08000000 00000000" STEPS(0)},
     {SINE, "0100 00000000 " EVEN, NO_SINE},
     {COSINE, "0100 00000000 " START ROOT END, NO_SINE},
-    {SINE, "0200 00000000 " EVEN, "0b 00000000 00000000"},
-    {COSINE, "0100 00000000 " EVEN "00", "09 28000000 00000000"},
+    {SINE, "0200 00000000 " EVEN, "0b 00000000 00000000" STEPS(0)},
+    {COSINE, "0100 00000000 " EVEN "00", "09 28000000 00000000" STEPS(0)},
 };
 
 static void by_hand(void) {

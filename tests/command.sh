@@ -109,8 +109,16 @@ gives 1 '' 'absent: unreadable: No such file' ask absent 1 0
 gives 1 '' 'deeper: unreadable: Is a directory' ask deeper 1 0
 for bad in 1e3 1,5 0x10 nan inf '' - . w 1ww '1 ' --; do gives 2 '' 'ask' ask good.sheet 1 0 "$bad"; done
 for bad in 65536 -1 one 1.0 '' 100000; do gives 2 '' 'number' ask good.sheet "$bad" 0; done
-gives 2 '' 'is no option' ask good.sheet 1 --loud
+for bad in --loud --step --stepss --; do gives 2 '' "ask: '$bad' is no option of it; there are --words and --steps" ask good.sheet 1 0 "$bad"; done
 gives 2 '' "$see ask" ask good.sheet
+# Heron's rule by hand: 33554432, 25165824, 23767722, 23726602, 23726566 to the root of 2; 8192, 5120, 4198, 4097, 4096 to that of a step
+gives 0 $'1.41421353816986083984375 5\n0 0\n' '' ask good.sheet 1 2 0 --steps
+gives 0 $'23726566 5\n4096 5\n' '' ask --steps good.sheet --words 1 33554432w 1w
+gives 1 $'0 0\nrefused 10 at 0\n1 5\n' 'at -0.5: refused 10 at 0' ask good.sheet 1 --steps 0 -0.5 1
+gives 1 $'refused 11 at 0\n' 'refused 11 at 0' ask good.sheet 2 0 --steps
+is "a script's answer and steps" "$("$command" ask good.sheet 1 2 --steps | { read -r answer steps && echo "$steps steps to $answer"; })" \
+    '5 steps to 1.41421353816986083984375'
+gives 2 '' "an ARGUMENT for --steps is missing; $see ask" ask good.sheet 1 --steps
 
 # ---- sine and cosine, by x - x^3/6 on -1 to 1: at one it is 16777216 - 2796203, at 0, 1 and 2 steps its argument
 printf '\10\0\0\0\1\0\1\0\30\0\0\0\24\0\5\0\0\0\0\377\0\0\0\1\0\0\0\1\125\125\325\377\10\0\0\0\377\377\1\0' >odd.sheet
@@ -119,6 +127,7 @@ gives 0 $'13981013\n0\n-13981013\n0\n' '' cosine --words odd.sheet 5 0 0x4000000
 gives 0 $'13981013\n13981013\n-13981013\n-13981013\n0\n' '' sine odd.sheet 5 --words 90deg 450deg -90deg -1.25t 123456789012345678901234567890.5t
 gives 0 $'0\n1\n1\n2\n-1\n-1\n' '' sine odd.sheet 5 --words 31 32 95 96 0xffffffe0 0x80000020    # 32 and 96 are ties
 gives 0 $'0.833333313465118408203125\n-0.833333313465118408203125\n' '' cosine - 5 360deg 0.5t <odd.sheet
+gives 0 $'0.833333313465118408203125 0\n' '' ask odd.sheet 5 1 --steps
 gives 1 $'refused 15 at 0\n' 'good.sheet, formula 1: refused 15 at 0: the formula is not of the kind odd' sine good.sheet 1 0 1 2
 gives 1 $'refused 15 at 0\n' 'refused 15 at 0: ' cosine good.sheet 1 0
 gives 1 $'refused 11 at 0\n' 'refused 11 at 0: no formula has that number' sine odd.sheet 4 0 1
@@ -128,7 +137,8 @@ gives 1 '' 'absent: unreadable: No such file' cosine absent 1 0
 gives 2 '' "is no angle: write degrees as 30deg" sine odd.sheet 5 0 30d
 gives 2 '' "cosine: '1.5' is no angle" cosine odd.sheet 5 0 1.5
 for bad in 65536 -1 one ''; do gives 2 '' 'number' sine odd.sheet "$bad" 0; done
-gives 2 '' 'is no option' cosine odd.sheet 5 0 --loud
+gives 2 '' "cosine: '--loud' is no option of it; there is --words" cosine odd.sheet 5 0 --loud
+gives 2 '' "sine: '--steps' is no option of it; there is --words" sine odd.sheet 5 0 --steps
 gives 2 '' "ANGLE is missing; $see sine" sine odd.sheet 5
 gives 2 '' "a formula's number and angles; $see cosine" cosine odd.sheet
 

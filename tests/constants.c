@@ -89,6 +89,12 @@ static void sizes(void) {
     hold("one more", vp_write_sheet(run, sizeof run, out, sizeof out).refused, VP_WRONG_COUNT);
 }
 
+/* The bytes that the header tells of, beside its version. */
+static void structs(void) {
+    hold("vp_worked", sizeof(vp_worked), 24);
+    hold("vp_shown", sizeof(vp_shown), 32);
+}
+
 static void version(void) {
     int first = VP_VERSION / 10000, second = VP_VERSION / 100 % 100, third = VP_VERSION % 100;
     char text[32];
@@ -101,6 +107,7 @@ int main(void) {
     questions();
     kinds();
     sizes();
+    structs();
     version();
     printf("%d right, %d wrong\n", right, wrong);
     return wrong != 0;

@@ -87,14 +87,25 @@ def formula_of(text):
 
 # ---- a question with the page's answer, for both programs
 
+def with_steps(answer):
+    """The parts of 'ANSWER after N steps'; where no steps are told, 0."""
+    itself, steps = re.fullmatch(
+        r"(\S+)(?: after (\d+) steps)?", answer).groups("0")
+    return itself, int(steps)
+
+
 def values_of(question, content, answer):
     if question == questions.COUNT:
         return pack("<H", int(answer))
     if question == questions.FORMULA:
         return questions.packed_fields(formula_of(answer))
     if question in (questions.EVALUATE, questions.SINE, questions.COSINE):
-        return pack("<i", int(answer))
-    if question in (questions.DOUBLE, questions.INTERVAL):
+        word, steps = with_steps(answer)
+        return pack("<iH", int(word), steps)
+    if question == questions.DOUBLE:
+        value, steps = with_steps(answer)
+        return pack("<dH", float(value), steps)
+    if question == questions.INTERVAL:
         return b"".join(pack("<d", float(x)) for x in answer.split())
     written = sheets[answer] if answer in sheets else bytes.fromhex(answer)
     buffer = questions.buffer_for(question, content)
@@ -116,38 +127,44 @@ def put(line, asked, answer):
 
 # ---- arithmetic: asked of the second program itself, and of both by formulas that come to it
 
-def at(x, n, formula):
-    """A formula whose answer at x is the operation's, n."""
-    return [(questions.ask_evaluate(sheet_of([formula]), 1, x), str(n))]
+def at(x, answer, formula):
+    """A formula whose answer at x is the operation's."""
+    return [(questions.ask_evaluate(sheet_of([formula]), 1, x), answer)]
 
 
-def beside(n, formula_with):
+def beside(answer, formula_with):
     """A bound n just fits beside M - n; beside one more it is refused by 7."""
+    n = int(answer)
+
     def asked(c):
         return questions.ask_count(sheet_of([formula_with(c)]))
     return [(asked(M - n), "1"), (asked(M - n + 1), "refused 7 at 8")]
 
 
 OPERATIONS = {
-    "product": (number.product, lambda n, a, b: at(
-        b, n, Formula(POLYNOMIAL, 1, b, b, 2, 0, 0, (0, a)))),
-    "quotient": (number.quotient, lambda n, a, d: at(
-        0, n, Formula(RATIONAL, 1, 0, 0, 1, 1, 0, (a, d)))),
-    "root": (number.root, lambda n, x: at(
-        x, n, Formula(SQUARE_ROOT, 1, 0, M, 0, 0, 0, ()))),
-    "bound product": (number.bound_product, lambda n, a, b: beside(
-        n, lambda c: Formula(POLYNOMIAL, 1, 0, b, 2, 0, 0, (c, a)))),
-    "bound quotient": (number.bound_quotient, lambda n, a, d: beside(
-        n, lambda c: Formula(FRACTION, 1, 0, ONE, 1, 0, 0, (c, a, d)))),
+    "product": (number.product, lambda answer, a, b: at(
+        b, answer, Formula(POLYNOMIAL, 1, b, b, 2, 0, 0, (0, a)))),
+    "quotient": (number.quotient, lambda answer, a, d: at(
+        0, answer, Formula(RATIONAL, 1, 0, 0, 1, 1, 0, (a, d)))),
+    "root": (number.root, lambda answer, x: at(
+        x, answer, Formula(SQUARE_ROOT, 1, 0, M, 0, 0, 0, ()))),
+    "bound product": (number.bound_product, lambda answer, a, b: beside(
+        answer, lambda c: Formula(POLYNOMIAL, 1, 0, b, 2, 0, 0, (c, a)))),
+    "bound quotient": (number.bound_quotient, lambda answer, a, d: beside(
+        answer, lambda c: Formula(FRACTION, 1, 0, ONE, 1, 0, 0, (c, a, d)))),
 }
 
 
-def operation(line, name, numbers, n):
+def operation(line, name, numbers, answer):
     itself, by_formulas = OPERATIONS[name]
-    check(itself(*numbers) == n, line)
-    if number.is_word(n):
-        for asked, answer in by_formulas(n, *numbers):
-            put(line, asked, answer)
+    n, steps = with_steps(answer)
+    found = itself(*numbers)
+    if name != "root":
+        found = found, 0  # the root alone has steps
+    check(found == (int(n), steps), line)
+    if number.is_word(int(n)):
+        for asked, expected in by_formulas(answer, *numbers):
+            put(line, asked, expected)
 
 
 # ---- the page's blocks and its table
@@ -202,7 +219,7 @@ def worked(line):
         f"({'|'.join(OPERATIONS)})((?: -?[0-9]+)+)", text)
     if arithmetic:
         name, numbers = arithmetic.groups()
-        operation(line, name, [int(n) for n in numbers.split()], int(answer))
+        operation(line, name, [int(n) for n in numbers.split()], answer)
     elif text.startswith("ready sheets, "):
         check(damage.found()[text[len("ready sheets, "):]] == answer, line)
     else:

@@ -64,16 +64,40 @@ class Reading(Case):
         self.refuses(11, 0, vp.interval, SHEET, 2)
 
     def test_evaluate(self):
-        self.assertEqual(vp.evaluate(SHEET, 1, 2 * ONE).word, 23726566)
+        self.assertEqual(vp.evaluate(SHEET, 1, 2 * ONE), vp.Worked(23726566, 5))
         self.refuses(10, 0, vp.evaluate, SHEET, 1, -1)
         self.refuses(10, 0, vp.evaluate, SHEET, 1, -2**31)
 
     def test_evaluate_double(self):
         for two in (2.0, 2):
-            self.assertEqual(vp.evaluate_double(SHEET, 1, two).value,
-                             23726566 / ONE)
+            self.assertEqual(vp.evaluate_double(SHEET, 1, two),
+                             vp.Shown(23726566 / ONE, 5))
         self.refuses(10, 0, vp.evaluate_double, SHEET, 1, 10**300)
         self.refuses(13, 0, vp.evaluate_double, SHEET, 1, float("nan"))
+
+    def test_steps(self):
+        """Arguments of a root, each with the numbers of Heron's rule, worked
+        out by hand. The last is the root, and there are as many as steps; the
+        most are of 33554433 squared less one."""
+        sheet = vp.write_sheet(vp.write_record(
+            dataclasses.replace(ROOT, hi=2**31 - 1)))
+        for argument, *numbers in (
+                (16777215, 16777216, 16777215), (3, 8192, 7168, 7094),
+                (2, 8192, 6144, 5802, 5792), (1, 8192, 5120, 4198, 4097, 4096),
+                (4097, 524288, 327696, 268726, 262255, 262176, 262175),
+                (67108868, 67108864, 41943040, 34393293, 33564662, 33554434,
+                 33554433, 33554432)):
+            self.assertEqual(vp.evaluate(sheet, 1, argument),
+                             vp.Worked(numbers[-1], len(numbers)))
+            self.assertEqual(vp.evaluate_double(sheet, 1, argument / ONE),
+                             vp.Shown(numbers[-1] / ONE, len(numbers)))
+        self.assertEqual(vp.evaluate(sheet, 1, 0), vp.Worked(0, 0))
+        self.assertEqual(vp.evaluate_double(sheet, 1, 0), vp.Shown(0.0, 0))
+
+    def test_steps_left_out(self):
+        """They are 0, as in the answers of every other kind."""
+        self.assertEqual(vp.Worked(1), vp.Worked(1, 0))
+        self.assertEqual(vp.Shown(1.0), vp.Shown(1.0, 0))
 
     def test_ties(self):
         """x itself, at halves of a step: they go away from zero."""
@@ -105,10 +129,10 @@ class Turning(Case):
                             # ties at half a step and at one and a half
                             (31, 0), (32, 1), (95, 1), (96, 2),
                             (2 * self.quarter - 32, 1), (2**32 - 32, -1)):
-            self.assertEqual(vp.sine(self.sheet, 10, angle).word, word)
+            self.assertEqual(vp.sine(self.sheet, 10, angle), vp.Worked(word, 0))
             self.assertEqual(
-                vp.cosine(self.sheet, 10, (angle - self.quarter) % 2**32).word,
-                word)
+                vp.cosine(self.sheet, 10, (angle - self.quarter) % 2**32),
+                vp.Worked(word, 0))
 
     def test_refused(self):
         for function in vp.sine, vp.cosine:
@@ -169,7 +193,10 @@ class Writing(Case):
                                        # -8388608 + 174763 by 4 is -2053461.25
                                        (11, ONE // 2, 14723755),
                                        (11, -ONE // 2, 14723755)):
-            self.assertEqual(vp.evaluate(sheet, number, argument).word, word)
+            self.assertEqual(vp.evaluate(sheet, number, argument),
+                             vp.Worked(word, 0))
+            self.assertEqual(vp.evaluate_double(sheet, number, argument / ONE),
+                             vp.Shown(word / ONE, 0))
 
 
 class Sheets(Case):

@@ -1,17 +1,26 @@
 //! Finds `libvalvepigeon.a` and has it linked. It is looked for where the variable VALVEPIGEON_LIBRARY_DIR says, else in the
-//! repository or the release that this package stands in, else where pkg-config says.
+//! repository or the release that this package stands in, else where pkg-config says, if the version there has the same first
+//! number: that moves when the structs do, and an archive's name does not show it.
 
 use std::path::{Path, PathBuf};
 use std::process::{exit, Command};
 
 const VARIABLE: &str = "VALVEPIGEON_LIBRARY_DIR";
 const ARCHIVE: &str = "libvalvepigeon.a";
+const FIRST_NUMBER: &str = env!("CARGO_PKG_VERSION_MAJOR");
+
+/// What pkg-config says of the library.
+fn pkg_config(what: &str) -> Option<String> {
+    let said = Command::new("pkg-config").args([what, "valvepigeon"]).output().ok()?;
+    let text = String::from_utf8(said.stdout).ok()?;
+    said.status.success().then(|| text.trim().to_string())
+}
 
 /// The folder above that of the file valvepigeon.pc, in whose name pkg-config puts a backslash before a blank.
 fn by_pkg_config() -> Option<PathBuf> {
-    let said = Command::new("pkg-config").args(["--variable=pcfiledir", "valvepigeon"]).output().ok()?;
-    let folder = String::from_utf8(said.stdout).ok()?.trim().replace('\\', "");
-    said.status.success().then(|| Path::new(&folder).join(".."))
+    let version = pkg_config("--modversion")?;
+    let folder = pkg_config("--variable=pcfiledir")?.replace('\\', "");
+    (version.split('.').next() == Some(FIRST_NUMBER)).then(|| Path::new(&folder).join(".."))
 }
 
 /// The folders to look in, the first first. What the variable says is not passed over.
@@ -36,7 +45,8 @@ fn main() {
     }
     let Some(folder) = folders().into_iter().find(|folder| folder.join(ARCHIVE).is_file()) else {
         stop(&format!(
-            "{ARCHIVE} is not found: run ./build-library in the repository, or set {VARIABLE} to the folder that holds it"
+            "{ARCHIVE} of version {FIRST_NUMBER} is not found: run ./build-library in the repository, or set {VARIABLE} to the \
+             folder that holds it"
         ))
     };
     println!("cargo:rerun-if-changed={}", folder.join(ARCHIVE).display());

@@ -9,8 +9,8 @@ divided by 2^24. Every function takes any bytes; it gives its answer or raises
     ...     sheet = file.read()
     >>> valvepigeon.count(sheet)
     4
-    >>> valvepigeon.evaluate(sheet, 161, 33554432).word
-    23726566
+    >>> valvepigeon.evaluate(sheet, 161, 33554432)
+    Worked(word=23726566, steps=5)
     >>> valvepigeon.evaluate_double(sheet, 161, 2.0).value
     1.4142135381698608
     >>> valvepigeon.interval(sheet, 161)
@@ -19,6 +19,11 @@ divided by 2^24. Every function takes any bytes; it gives its answer or raises
     Traceback (most recent call last):
         ...
     valvepigeon.Refused: refused 10 at 0: ...
+
+A root is worked by Heron's rule, and `steps` is the number of its steps, the
+last one included: at most 7. The five above go from 33554432 to 25165824,
+23767722, 23726602 and 23726566; the fifth changes nothing, and so ends it. For
+the argument 0, for every other kind, and in sines and cosines `steps` is 0.
 
 An angle is a part of a turn, which has 2^32 of them; the sine of an eighth is
 
@@ -101,16 +106,19 @@ class Fields:
 
 @dataclass(frozen=True)
 class Worked:
-    """A formula's answer, a word."""
+    """A formula's answer, a word; and the steps of a root, or 0."""
 
     word: int
+    steps: int = 0
 
 
 @dataclass(frozen=True)
 class Shown:
-    """A formula's answer as a double: exactly the answer word divided by 2^24."""
+    """A formula's answer as a double, exactly the answer word divided by 2^24;
+    and the steps of a root, or 0."""
 
     value: float
+    steps: int = 0
 
 
 @dataclass(frozen=True)
@@ -201,6 +209,12 @@ def _lent(function: str, content: ReadableBuffer, *arguments: Any) -> Any:
         return _called(function, _start(view), view.nbytes, *arguments)
 
 
+def _worked(function: str, sheet: ReadableBuffer, *arguments: int) -> Worked:
+    """The answer of a function that gives a word."""
+    answer = _lent(function, sheet, *arguments)
+    return Worked(answer.word, answer.steps)
+
+
 # ---- the nine functions
 
 def count(sheet: ReadableBuffer) -> int:
@@ -217,26 +231,26 @@ def formula(sheet: ReadableBuffer, number: int) -> Fields:
 
 def evaluate(sheet: ReadableBuffer, number: int, argument: int) -> Worked:
     """The answer at a word. Refusals 1 to 9, then 11, 10."""
-    return Worked(_lent("vp_evaluate", sheet, _u16(number),
-                        _i32(argument)).word)
+    return _worked("vp_evaluate", sheet, _u16(number), _i32(argument))
 
 
 def evaluate_double(sheet: ReadableBuffer, number: int,
                     argument: float) -> Shown:
     """The answer at a double. Refusals 1 to 9, then 11, 13, 10."""
-    return Shown(_lent("vp_evaluate_double", sheet, _u16(number),
-                       _double(argument)).value)
+    answer = _lent("vp_evaluate_double", sheet, _u16(number),
+                   _double(argument))
+    return Shown(answer.value, answer.steps)
 
 
 def sine(sheet: ReadableBuffer, number: int, angle: int) -> Worked:
     """The sine of an angle, 0 to 2^32 - 1, by an odd formula whose interval
     holds 0 to one, as those for sin(pi x/2). Refusals 1 to 9, then 11, 15."""
-    return Worked(_lent("vp_sine", sheet, _u16(number), _u32(angle)).word)
+    return _worked("vp_sine", sheet, _u16(number), _u32(angle))
 
 
 def cosine(sheet: ReadableBuffer, number: int, angle: int) -> Worked:
     """The cosine: the sine of a quarter more. Refusals 1 to 9, then 11, 15."""
-    return Worked(_lent("vp_cosine", sheet, _u16(number), _u32(angle)).word)
+    return _worked("vp_cosine", sheet, _u16(number), _u32(angle))
 
 
 def interval(sheet: ReadableBuffer, number: int) -> Ends:

@@ -5,13 +5,16 @@
 //!
 //! ```
 //! # fn main() -> Result<(), valvepigeon::Refusal> {
-//! use valvepigeon::{evaluate_double, write_record, write_sheet, Fields, LONGEST_RECORD, ROOT, SHEET_ADDS};
+//! use valvepigeon::{evaluate, evaluate_double, write_record, write_sheet, Fields, LONGEST_RECORD, ROOT, SHEET_ADDS};
 //!
 //! let root = Fields { kind: ROOT, number: 1, lo: 0, hi: 33554432, ..Fields::default() };
 //! let mut record = [0; LONGEST_RECORD];
 //! let length = write_record(&root, &mut record)?;
 //! let mut sheet = vec![0; length + SHEET_ADDS];
 //! write_sheet(&record[..length], &mut sheet)?;
+//! let two = evaluate(&sheet, 1, 33554432)?;
+//! // By Heron's rule: 33554432, 25165824, 23767722, 23726602, 23726566, and the fifth step changes nothing.
+//! assert_eq!((two.word, two.steps), (23726566, 5));
 //! assert_eq!(evaluate_double(&sheet, 1, 2.0)?.value, 1.41421353816986083984375);
 //! assert_eq!(evaluate_double(&sheet, 1, 2.5).unwrap_err().number, valvepigeon::ARGUMENT_OUTSIDE);
 //! # Ok(())
@@ -110,6 +113,9 @@ impl std::error::Error for Refusal {}
 pub struct Worked {
     /// The answer.
     pub word: i32,
+    /// How many steps Heron's rule took to a root, the last one included: at most 7. It is 0 for the argument 0, for every other
+    /// kind, and in sines and cosines.
+    pub steps: u16,
 }
 
 /// A formula's answer as a double.
@@ -118,6 +124,8 @@ pub struct Worked {
 pub struct Shown {
     /// Exactly the answer word divided by 2^24; zero is plus zero.
     pub value: f64,
+    /// How many steps Heron's rule took to a root, as [`Worked::steps`] says.
+    pub steps: u16,
 }
 
 /// A formula's interval, each end exactly its word divided by 2^24.
@@ -138,6 +146,10 @@ fn answer<T>(refused: u32, place: u64, value: T) -> Result<T, Refusal> {
     }
 }
 
+fn worked(r: raw::Worked) -> Result<Worked, Refusal> {
+    answer(r.refused, r.place, Worked { word: r.word, steps: r.steps })
+}
+
 // In each call below a slice lends its own pointer and length, and no function keeps a pointer, or reads or writes outside
 // what it is lent.
 
@@ -155,27 +167,24 @@ pub fn formula(sheet: &[u8], number: u16) -> Result<Fields, Refusal> {
 
 /// What the formula of that number answers at a word. Refusals 1 to 9, then 11, 10.
 pub fn evaluate(sheet: &[u8], number: u16, argument: i32) -> Result<Worked, Refusal> {
-    let r = unsafe { raw::vp_evaluate(sheet.as_ptr(), sheet.len(), number, argument) };
-    answer(r.refused, r.place, Worked { word: r.word })
+    worked(unsafe { raw::vp_evaluate(sheet.as_ptr(), sheet.len(), number, argument) })
 }
 
 /// What the formula of that number answers at a double. Refusals 1 to 9, then 11, 13, 10.
 pub fn evaluate_double(sheet: &[u8], number: u16, argument: f64) -> Result<Shown, Refusal> {
     let r = unsafe { raw::vp_evaluate_double(sheet.as_ptr(), sheet.len(), number, argument) };
-    answer(r.refused, r.place, Shown { value: r.value })
+    answer(r.refused, r.place, Shown { value: r.value, steps: r.steps })
 }
 
 /// The sine of an angle by the formula of that number, an odd one whose interval holds 0 to one, as those for sin(pi x/2). An
 /// angle is a part of a turn, which has 2^32 of them; add angles by [`u32::wrapping_add`]. Refusals 1 to 9, then 11, 15.
 pub fn sine(sheet: &[u8], number: u16, angle: u32) -> Result<Worked, Refusal> {
-    let r = unsafe { raw::vp_sine(sheet.as_ptr(), sheet.len(), number, angle) };
-    answer(r.refused, r.place, Worked { word: r.word })
+    worked(unsafe { raw::vp_sine(sheet.as_ptr(), sheet.len(), number, angle) })
 }
 
 /// The cosine of an angle: the sine of a quarter more. Refusals 1 to 9, then 11, 15.
 pub fn cosine(sheet: &[u8], number: u16, angle: u32) -> Result<Worked, Refusal> {
-    let r = unsafe { raw::vp_cosine(sheet.as_ptr(), sheet.len(), number, angle) };
-    answer(r.refused, r.place, Worked { word: r.word })
+    worked(unsafe { raw::vp_cosine(sheet.as_ptr(), sheet.len(), number, angle) })
 }
 
 /// The interval of the formula of that number. Refusals 1 to 9, then 11.

@@ -43,6 +43,7 @@ pub struct Worked {
     pub refused: u32,
     pub place: u64,
     pub word: i32,
+    pub steps: u16,
 }
 
 #[repr(C)]
@@ -50,6 +51,7 @@ pub struct Shown {
     pub refused: u32,
     pub place: u64,
     pub value: f64,
+    pub steps: u16,
 }
 
 #[repr(C)]

@@ -1,4 +1,5 @@
-//! Calls each function of the binding, on the paper's own sheet, at ties, on an odd and an even formula, and at angles.
+//! Calls each function of the binding, on the paper's own sheet, on roots of every number of steps, at ties, on an odd and an even
+//! formula, and at angles.
 
 use valvepigeon::*;
 
@@ -32,10 +33,12 @@ fn finds() {
 
 #[test]
 fn evaluates() {
-    assert_eq!(evaluate(&SHEET, 1, 33554432).unwrap().word, 23726566);
+    let two = evaluate(&SHEET, 1, 33554432).unwrap();
+    assert_eq!((two.word, two.steps), (23726566, 5));
     assert_eq!(evaluate(&SHEET, 1, -1), refused(10, 0));
     assert_eq!(evaluate(&SHEET, 1, i32::MIN), refused(10, 0));
-    assert_eq!(evaluate_double(&SHEET, 1, 2.0).unwrap().value, 23726566.0 / 16777216.0);
+    let two = evaluate_double(&SHEET, 1, 2.0).unwrap();
+    assert_eq!((two.value, two.steps), (23726566.0 / 16777216.0, 5));
     assert_eq!(evaluate_double(&SHEET, 1, f64::NAN), refused(13, 0));
 }
 
@@ -68,12 +71,41 @@ fn series(kind: u16, number: u16, coefficients: &[i32]) -> Fields {
     f
 }
 
-#[test]
-fn ties_go_away_from_zero() {
+/// A sheet of one formula.
+fn sheet_of(formula: &Fields) -> Vec<u8> {
     let mut record = [0; LONGEST_RECORD];
-    let length = write_record(&series(POLYNOMIAL, 1, &[0, ONE]), &mut record).unwrap();
+    let length = write_record(formula, &mut record).unwrap();
     let mut sheet = vec![0; length + SHEET_ADDS];
     write_sheet(&record[..length], &mut sheet).unwrap();
+    sheet
+}
+
+#[test]
+fn counts_the_steps_of_a_root() {
+    let sheet = sheet_of(&Fields { hi: i32::MAX, ..root() });
+    // arguments with the numbers of Heron's rule, worked out by hand: the last is the root, and there are as many as steps; the
+    // most are of 33554433 squared less one
+    let walks: [(i32, &[i32]); 7] = [
+        (0, &[]),
+        (16777215, &[16777216, 16777215]),
+        (3, &[8192, 7168, 7094]),
+        (2, &[8192, 6144, 5802, 5792]),
+        (1, &[8192, 5120, 4198, 4097, 4096]),
+        (4097, &[524288, 327696, 268726, 262255, 262176, 262175]),
+        (67108868, &[67108864, 41943040, 34393293, 33564662, 33554434, 33554433, 33554432]),
+    ];
+    for (argument, numbers) in walks {
+        let (last, steps) = (numbers.last().copied().unwrap_or(0), numbers.len() as u16);
+        let word = evaluate(&sheet, 1, argument).unwrap();
+        assert_eq!((word.word, word.steps), (last, steps));
+        let double = evaluate_double(&sheet, 1, f64::from(argument) / f64::from(ONE)).unwrap();
+        assert_eq!((double.value, double.steps), (f64::from(last) / f64::from(ONE), steps));
+    }
+}
+
+#[test]
+fn ties_go_away_from_zero() {
+    let sheet = sheet_of(&series(POLYNOMIAL, 1, &[0, ONE]));
     // x itself, at halves of a step
     let step = 1.0 / f64::from(ONE);
     for (argument, value) in [(0.5, 1.0), (-0.5, -1.0), (1.5, 2.0), (-1.5, -2.0)] {
@@ -96,7 +128,9 @@ fn odd_and_even() {
     assert_eq!((formula(&sheet, 1), formula(&sheet, 2)), (Ok(odd), Ok(even)));
     // x - x^3/6, where the last product is a tie, and 1 - x^2/2 + x^4/24
     for (number, argument, word) in [(1, ONE / 2, 8039083), (1, -ONE / 2, -8039083), (2, ONE / 2, 14723755), (2, -ONE / 2, 14723755)] {
-        assert_eq!(evaluate(&sheet, number, argument).unwrap().word, word);
+        let answer = evaluate(&sheet, number, argument).unwrap();
+        assert_eq!((answer.word, answer.steps), (word, 0));
+        assert_eq!(evaluate_double(&sheet, number, f64::from(argument) / f64::from(ONE)).unwrap().steps, 0);
     }
     // 12 times 12 is no word
     for kind in [ODD, EVEN] {
@@ -118,8 +152,9 @@ fn sines_and_cosines() {
         (quarter / 2, 8039083), (5 * (quarter / 2), -8039083),
         (31, 0), (32, 1), (96, 2), (32u32.wrapping_neg(), -1),
     ] {
-        assert_eq!(sine(&sheet, 1, angle).unwrap().word, word);
-        assert_eq!(cosine(&sheet, 1, angle.wrapping_sub(quarter)).unwrap().word, word);
+        for answer in [sine(&sheet, 1, angle).unwrap(), cosine(&sheet, 1, angle.wrapping_sub(quarter)).unwrap()] {
+            assert_eq!((answer.word, answer.steps), (word, 0));
+        }
     }
     for function in [sine, cosine] {
         assert_eq!(function(&sheet, 2, 0), refused(NO_SINE, 0));
