@@ -34,8 +34,9 @@ extern "C" {
 
    With 2.0.0 vp_worked and vp_shown have `steps`. vp_worked keeps its 24 bytes, and a program compiled with an older header still
    reads its word. But vp_shown grows from 24 bytes to 32, and is returned in memory that the caller lends: vp_evaluate_double
-   would write beyond the struct of such a program. So the shared library is libvalvepigeon.so.2 now, and the loader does not put
-   the two together; a program that has the archive has to be compiled anew. */
+   would write beyond the struct of such a program. So the shared library is libvalvepigeon.so.2 now, which the loader never gives
+   to a program that was linked with libvalvepigeon.so.1; an archive has no such name, and what is linked with it has to be compiled
+   with this header. */
 #define VP_VERSION 20000
 #define VP_VERSION_STRING "2.0.0"
 
@@ -114,7 +115,7 @@ typedef struct {
     uint16_t steps;
 } vp_worked;
 
-/* A formula's answer as a double: exactly the answer word divided by 2^24; zero is plus zero. `steps` is as above. */
+/* A formula's answer as a double: exactly the answer word divided by 2^24; zero is plus zero. `steps` is as in vp_worked. */
 typedef struct {
     uint32_t refused;
     uint64_t place;
@@ -151,8 +152,8 @@ vp_found vp_formula(const uint8_t *sheet, size_t length, uint16_t number);
    included, and is at most 7. It is 0 for the argument 0, and for a formula of every other kind. */
 vp_worked vp_evaluate(const uint8_t *sheet, size_t length, uint16_t number, int32_t argument);
 
-/* The same for a double, `steps` included. The argument's exact value times 2^24 is rounded as a product is; where the rounded
-   value is no word or lies outside the interval, 10. Refusals 1 to 9, then 11, 13, 10. */
+/* The same for a double. The argument's exact value times 2^24 is rounded as a product is, and `steps` are those at that word; where
+   the rounded value is no word or lies outside the interval, 10. Refusals 1 to 9, then 11, 13, 10. */
 vp_shown vp_evaluate_double(const uint8_t *sheet, size_t length, uint16_t number, double argument);
 
 /* The sine of an angle, by the sheet's formula of that number, which has to be of the kind odd and to hold 0 to one in its

@@ -1,7 +1,7 @@
 #!/usr/bin/env bash
-# The README's commands print what it shows: the listed sheet, the formula that is asked, the sines, the steps, and from a typed formula to its
-# answers, which are the paper's. What it and the other pages link to, and the folders that it names, are there; and CHANGELOG.md
-# tells of the version.
+# The README's commands print what it shows: the listed sheet, the formula that is asked, the sines, the steps of roots, and from a
+# typed formula to its answers, which are the paper's. What it and the other pages link to, and the folders that it names, are there;
+# and CHANGELOG.md tells of the version.
 set -u
 cd "$(dirname "$0")/.." || exit 2
 . tests/lib.sh

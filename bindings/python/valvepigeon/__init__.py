@@ -21,9 +21,10 @@ divided by 2^24. Every function takes any bytes; it gives its answer or raises
     valvepigeon.Refused: refused 10 at 0: ...
 
 A root is worked by Heron's rule, and `steps` is the number of its steps, the
-last one included: at most 7. The five above go from 33554432 to 25165824,
-23767722, 23726602 and 23726566; the fifth changes nothing, and so ends it. For
-the argument 0, for every other kind, and in sines and cosines `steps` is 0.
+last one included: at most 7. The five above go from 2^25, which only by chance
+is the argument too, to 25165824, 23767722, 23726602 and 23726566; the fifth
+changes nothing, and so ends it. For the argument 0, for every other kind, and
+in sines and cosines `steps` is 0.
 
 An angle is a part of a turn, which has 2^32 of them; the sine of an eighth is
 

@@ -13,7 +13,7 @@
 //! let mut sheet = vec![0; length + SHEET_ADDS];
 //! write_sheet(&record[..length], &mut sheet)?;
 //! let two = evaluate(&sheet, 1, 33554432)?;
-//! // By Heron's rule: 33554432, 25165824, 23767722, 23726602, 23726566, and the fifth step changes nothing.
+//! // By Heron's rule: 2^25 (by chance the argument too), 25165824, 23767722, 23726602, 23726566, and the fifth step changes nothing.
 //! assert_eq!((two.word, two.steps), (23726566, 5));
 //! assert_eq!(evaluate_double(&sheet, 1, 2.0)?.value, 1.41421353816986083984375);
 //! assert_eq!(evaluate_double(&sheet, 1, 2.5).unwrap_err().number, valvepigeon::ARGUMENT_OUTSIDE);
@@ -23,7 +23,7 @@
 //!
 //! The library is for x86-64 Linux. `./build-library` makes it in the repository, where a package that names this one by its
 //! path finds it: `valvepigeon = { path = ".../bindings/rust" }`. Elsewhere the variable `VALVEPIGEON_LIBRARY_DIR` names the
-//! folder of `libvalvepigeon.a`, or pkg-config knows it.
+//! folder of `libvalvepigeon.a`, or pkg-config knows it, by a version with the same first number.
 
 #![warn(missing_docs)]
 
