@@ -1,5 +1,5 @@
 -- Heron's rule: it starts above the root, it falls while it is above, it never passes below, and where it stops falling it is the root.
-use Rattle.whole.proofs.Basics.{_≡_, refl, sym, ap, subst, Bool, cond, ℕ, suc, zero, _+_, _*_, _/_, _^_, _≤_, _<_, arith, lt-ltb, le-ltb}
+use Rattle.whole.proofs.Basics.{_≡_, sym, ap, subst, Bool, cond, ℕ, suc, zero, _+_, _*_, _/_, _^_, _≤_, _<_, arith, lt-ltb, le-ltb}
 use native.Mathlib.Nat.{mul-le-mul-left, div-add-mod, mod-lt, lt-of-mul-lt-mul-left, le-dest, pow-succ', pow-zero}
 use native.Mathlib.Decide.{decLe}
 use lib.Pow.{pow-pos, pow-mono, pow-add}

@@ -1,5 +1,5 @@
 -- What is left of Heron's rule in the midst of it: from w on, with n steps done, it comes to the same root, by as many steps in all.
-use Rattle.whole.proofs.Basics.{_≡_, _∙_, refl, sym, ap, subst, ℕ, suc, zero, _+_, _≤_, _<_, arith}
+use Rattle.whole.proofs.Basics.{_≡_, _∙_, refl, sym, ap, ℕ, suc, zero, _≤_, _<_, arith}
 use native.Mathlib.Decide.{decLe}
 use Rattle.root.specs.Heron.{start, next, rooted, heronFrom, heronOf}
 use Rattle.root.specs.declared.Rooted.{Rooted}

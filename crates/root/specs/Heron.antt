@@ -42,7 +42,7 @@ heronOf (suc n) = heronFrom (start (suc n)) (suc n) (start (suc n)) 0
 abbrev pub rootedBy : ℕ → ℤ → Rooted
 rootedBy s x = heronOf (natAbs x * unit s)
 
--- ---- worked examples. Digits, and the start with as many of them, odd and even: 2 from 1, 2 and 3 on, 4 from 4 to 15, 8 from 16 on
+-- ---- worked examples. Digits, and the start by them, odd and even: 2 for 1 to 3, 4 for 4 to 15, 8 for 16 to 63
 some-digits : (digits 0 ≡ 0) × (digits 1 ≡ 1) × (digits 2 ≡ 2) × (digits 3 ≡ 2) × (digits 4 ≡ 3) × (digits 16777215 ≡ 24) × (digits 16777216 ≡ 25)
 unfolding digitsIn
 some-digits = (refl, refl, refl, refl, refl, refl, refl)

@@ -3,7 +3,7 @@ use Rattle.whole.proofs.Basics.{_≡_, _∙_, ap, ap₂, ℕ, _+_, _-_, _*_, _/
 use native.Mathlib.Nat.{mod-eq-of-lt, one-mul, lt-of-mul-lt-mul-left}
 use lib.Count.{leadingZeros, leading-le, leading-length}
 use lib.Pow.{pow-lt}
-use Rattle.root.specs.Heron.{digits, start, next}
+use Rattle.root.specs.Heron.{digits, start}
 use Rattle.root.proofs.DigitsLaws.{digits-of, digits-one}
 use Rattle.root.proofs.HeronLaws.{part, start-above, start-pos, exponent-most, start-most}
 use Rattle.root.proofs.first_step.Statement.{statement}

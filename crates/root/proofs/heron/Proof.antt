@@ -1,5 +1,5 @@
 -- `root::heron` meets its contract. The invariant, of w = less + 1: its size leaves room for the sum, and from it on the rule comes to the same end.
-use Rattle.whole.proofs.Basics.{_≡_, _∙_, sym, ap, subst, ℕ, suc, _+_, _-_, _/_, _^_, _≤_, _<_, arith}
+use Rattle.whole.proofs.Basics.{_≡_, _∙_, sym, ap, subst, ℕ, suc, _+_, _-_, _^_, _≤_, _<_, arith}
 use native.Mathlib.Nat.{div-le-self}
 use Rattle.root.specs.Heron.{start, next, rooted, heronOf}
 use Rattle.root.proofs.HeronLaws.{next-pos, start-above, start-pos, start-most, falls}
