@@ -6,9 +6,9 @@ use Prim.Native.Nat.{ℕ}
 use lib.IntN.{ℤ, pos, negsuc}
 use lib.Signed.{ltZ}
 use Rattle.word.specs.Rounded.{rounded}
-use Rattle.formula.specs.declared.Kind.the-variants.{Polynomial}
+use Rattle.formula.specs.declared.Kind.the-variants.{Polynomial, Root}
 use Rattle.formula.specs.declared.Formula.{Formula}
-use Rattle.formula.specs.Formula.{worked, workedOf}
+use Rattle.formula.specs.Formula.{answerBy, stepsBy, worked, workedOf}
 use Rattle.polynomial.specs.Polynomial.{horner}
 use Rattle.layout.specs.Fields.{shape, padded, formula, wordsIn}
 use Rattle.faults.specs.Guard.{refusal}
@@ -48,9 +48,25 @@ answerAt s f x =
 
 -- ---- worked examples: what an answer and a refusal tell
 told :
-    ((evaluationNumber (answered (pos 3) 5) ≡ 0) × (evaluationPlace (answered (pos 3) 5) ≡ 0) × (evaluationWord (answered (pos 3) 5) ≡ pos 3) × (evaluationSteps (answered (pos 3) 5) ≡ 5))
-    × ((evaluationNumber (Refused (refusal 8 7)) ≡ 7) × (evaluationPlace (Refused (refusal 8 7)) ≡ 8) × (evaluationWord (Refused (refusal 8 7)) ≡ pos 0) × (evaluationSteps (Refused (refusal 8 7)) ≡ 0))
-told = ((refl, refl, refl, refl), (refl, refl, refl, refl))
+    (evaluationNumber (answered (pos 3) 5) ≡ 0)
+    × (evaluationPlace (answered (pos 3) 5) ≡ 0)
+    × (evaluationWord (answered (pos 3) 5) ≡ pos 3)
+    × (evaluationSteps (answered (pos 3) 5) ≡ 5)
+    × (evaluationNumber (Refused (refusal 8 7)) ≡ 7)
+    × (evaluationPlace (Refused (refusal 8 7)) ≡ 8)
+    × (evaluationWord (Refused (refusal 8 7)) ≡ pos 0)
+    × (evaluationSteps (Refused (refusal 8 7)) ≡ 0)
+told = (refl, refl, refl, refl, refl, refl, refl, refl)
+
+-- a root up to two, with the steps to it, at 24 places and at 16
+abbrev squareRoot : Formula
+squareRoot = formula 1 (shape Root 0 0 0) (pos 0) (pos 33554432) (padded [])
+
+root-with-steps :
+    (answerAt 24 squareRoot (pos 33554432) ≡ answered (answerBy Root 24 0 0 0 [] (pos 33554432)) (stepsBy Root 24 (pos 33554432)))
+    × (answerAt 16 squareRoot (pos 1) ≡ answered (answerBy Root 16 0 0 0 [] (pos 1)) (stepsBy Root 16 (pos 1)))
+unfolding answerAt padded
+root-with-steps = (refl, refl)
 
 -- the constant 3, over -1 step to 1 step: both ends, and one step outside each
 abbrev pub constant : Formula

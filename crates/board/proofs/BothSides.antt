@@ -3,7 +3,7 @@
 use Rattle.whole.proofs.Basics.{_≡_, _∙_, sym, ap, ap₂, List, ℕ, ℤ, negℤ, _≤ℤ_}
 use Rattle.formula.specs.declared.Formula.{Formula}
 use Rattle.formula.specs.Parity.{OddFormula, EvenFormula}
-use Rattle.formula.proofs.BothSides.{formula-negated, formula-same, odd-steps, even-steps}
+use Rattle.formula.proofs.BothSides.{formula-negated, formula-same, odd-no-steps, even-no-steps}
 use Rattle.layout.specs.Fields.{wordsIn}
 use Rattle.sheet.specs.Reader.{HasFormula}
 use Rattle.answering.specs.Answering.{answered, evaluationWord}
@@ -21,11 +21,11 @@ module _ (s : ℕ) (bytes : List ℕ) (n : ℕ) (given : HasFormula s bytes n) w
     pub sheet-negated : OddFormula (f .shape) (wordsIn f) → evaluated s bytes n (negℤ x) ≡ answered (negℤ (evaluationWord (evaluated s bytes n x))) 0
     sheet-negated o =
         answers-inside s bytes n given (negℤ x) l′ h′
-        ∙ ap₂ answered (formula-negated s (f .shape) (wordsIn f) x o) (odd-steps s (f .shape) (wordsIn f) (negℤ x) o)
+        ∙ ap₂ answered (formula-negated s (f .shape) (wordsIn f) x o) (odd-no-steps s (f .shape) (wordsIn f) (negℤ x) o)
         ∙ ap (λ (e : Evaluation). answered (negℤ (evaluationWord e)) 0) (sym (answers-inside s bytes n given x l h))
 
     pub sheet-same : EvenFormula (f .shape) (wordsIn f) → evaluated s bytes n (negℤ x) ≡ evaluated s bytes n x
     sheet-same e =
         answers-inside s bytes n given (negℤ x) l′ h′
-        ∙ ap₂ answered (formula-same s (f .shape) (wordsIn f) x e) (even-steps s (f .shape) (wordsIn f) (negℤ x) e ∙ sym (even-steps s (f .shape) (wordsIn f) x e))
+        ∙ ap₂ answered (formula-same s (f .shape) (wordsIn f) x e) (even-no-steps s (f .shape) (wordsIn f) (negℤ x) e ∙ sym (even-no-steps s (f .shape) (wordsIn f) x e))
         ∙ sym (answers-inside s bytes n given x l h)

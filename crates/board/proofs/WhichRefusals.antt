@@ -33,5 +33,5 @@ at-argument l ten s f x = at (ltZ x (f .lo)) (ltZ (f .hi) x)
     at false true = inr ten
     at false false = inl (_, refl)
 
-pub evaluation-refusals : (s : ℕ) (bytes : List ℕ) (n : ℕ) (x : ℤ) → ((w : Worked) × (evaluated s bytes n x ≡ Answered w)) ⊎ OneOf evaluationRefusals (evaluationNumber (evaluated s bytes n x))
+pub evaluation-refusals : (s : ℕ) (bytes : List ℕ) (n : ℕ) (x : ℤ) → AnswerOr evaluationRefusals (evaluated s bytes n x)
 evaluation-refusals s bytes n x = given-or evaluationRefusals (formulaRead s bytes n .found) _ (read-or-eleven s bytes n) (λ k h. inr h) (at-argument evaluationRefusals (inl refl) s (formulaRead s bytes n .formula) x)

@@ -85,7 +85,7 @@ refused-word :
     × (shown (NotShown (refusal 0 13)) ≡ record { refused = 13; place = 0; value = ofBits binary64 0; steps = 0 })
 refused-word = (refl, refl)
 
--- an answer goes out with its steps: the root of two, and of 0
+-- an answer goes out with its steps, as a word and as a double
 answered-word :
     (worked (answered (pos 23726566) 5) ≡ record { refused = 0; place = 0; word = pos 23726566; steps = 5 })
     × (shown (Value (ofBits binary64 0) 7) ≡ record { refused = 0; place = 0; value = ofBits binary64 0; steps = 7 })

@@ -100,9 +100,15 @@ IntervalAs s r i = IntervalBy s (r .found) (r .formula) i
 
 -- ---- worked examples: what an answer and a refusal tell
 told :
-    ((shownNumber (Value plusZero 5) ≡ 0) × (shownPlace (Value plusZero 5) ≡ 0) × (shownValue (Value plusZero 5) ≡ plusZero) × (shownSteps (Value plusZero 5) ≡ 5))
-    × ((shownNumber (NotShown (refusal 8 7)) ≡ 7) × (shownPlace (NotShown (refusal 8 7)) ≡ 8) × (shownValue (NotShown (refusal 8 7)) ≡ plusZero) × (shownSteps (NotShown (refusal 8 7)) ≡ 0))
-told = ((refl, refl, refl, refl), (refl, refl, refl, refl))
+    (shownNumber (Value plusZero 5) ≡ 0)
+    × (shownPlace (Value plusZero 5) ≡ 0)
+    × (shownValue (Value plusZero 5) ≡ plusZero)
+    × (shownSteps (Value plusZero 5) ≡ 5)
+    × (shownNumber (NotShown (refusal 8 7)) ≡ 7)
+    × (shownPlace (NotShown (refusal 8 7)) ≡ 8)
+    × (shownValue (NotShown (refusal 8 7)) ≡ plusZero)
+    × (shownSteps (NotShown (refusal 8 7)) ≡ 0)
+told = (refl, refl, refl, refl, refl, refl, refl, refl)
 
 -- 10 and 13 of the door
 door-refusals :

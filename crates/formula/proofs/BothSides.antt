@@ -1,5 +1,5 @@
 -- An odd formula answers at -x exactly the negated answer, and an even one the same: kind by kind. Neither is a root, so neither has steps.
-use Rattle.whole.proofs.Basics.{_≡_, refl, inl, inr, List, ℕ, take, drop, ℤ, negℤ}
+use Rattle.whole.proofs.Basics.{_≡_, subst, inl, inr, List, ℕ, take, drop, ℤ, negℤ}
 use Rattle.polynomial.proofs.BothSides.{polynomial-negated, polynomial-same}
 use Rattle.odd_even.proofs.BothSides.{odd-negated, even-same}
 use Rattle.rational.proofs.BothSides.{odd-over-even, even-over-odd, even-over-even, odd-over-odd}
@@ -9,6 +9,7 @@ use Rattle.formula.specs.Parity.{OddBy, OddFormula, EvenBy, EvenFormula}
 use Rattle.formula.specs.declared.Kind.{Kind}
 use Rattle.formula.specs.declared.Kind.the-variants.{Polynomial, Rational, Fraction, Root, Odd, Even, NoFormula}
 use Rattle.formula.specs.declared.Shape.{Shape}
+use Rattle.formula.proofs.FewSteps.{other-kinds}
 
 negated-by : (k : Kind) (s p q mode : ℕ) (ws : List ℤ) (x : ℤ) → OddBy k p q mode ws → answerBy k s p q mode ws (negℤ x) ≡ negℤ (answerBy k s p q mode ws x)
 negated-by Polynomial s p q mode ws x h = polynomial-negated s (take p ws) x h
@@ -36,26 +37,8 @@ same-by NoFormula s p q mode ws x h = absurd h
 pub formula-same : (s : ℕ) (h : Shape) (ws : List ℤ) (x : ℤ) → EvenFormula h ws → answerOf s h ws (negℤ x) ≡ answerOf s h ws x
 formula-same s h ws x e = same-by (h .kind) s (h .p) (h .q) (h .mode) ws x e
 
-no-odd-steps : (k : Kind) (s p q mode : ℕ) (ws : List ℤ) (x : ℤ) → OddBy k p q mode ws → stepsBy k s x ≡ 0
-no-odd-steps Polynomial s p q mode ws x h = refl
-no-odd-steps Rational s p q mode ws x h = refl
-no-odd-steps Fraction s p q mode ws x h = refl
-no-odd-steps Root s p q mode ws x h = absurd h
-no-odd-steps Odd s p q mode ws x h = refl
-no-odd-steps Even s p q mode ws x h = absurd h
-no-odd-steps NoFormula s p q mode ws x h = absurd h
+pub odd-no-steps : (s : ℕ) (h : Shape) (ws : List ℤ) (x : ℤ) → OddFormula h ws → stepsBy (h .kind) s x ≡ 0
+odd-no-steps s h ws x o = other-kinds (h .kind) s x (λ e. subst (λ (k : Kind). OddBy k (h .p) (h .q) (h .mode) ws) e o)
 
-pub odd-steps : (s : ℕ) (h : Shape) (ws : List ℤ) (x : ℤ) → OddFormula h ws → stepsBy (h .kind) s x ≡ 0
-odd-steps s h ws x o = no-odd-steps (h .kind) s (h .p) (h .q) (h .mode) ws x o
-
-no-even-steps : (k : Kind) (s p q mode : ℕ) (ws : List ℤ) (x : ℤ) → EvenBy k p q mode ws → stepsBy k s x ≡ 0
-no-even-steps Polynomial s p q mode ws x h = refl
-no-even-steps Rational s p q mode ws x h = refl
-no-even-steps Fraction s p q mode ws x h = refl
-no-even-steps Root s p q mode ws x h = absurd h
-no-even-steps Odd s p q mode ws x h = absurd h
-no-even-steps Even s p q mode ws x h = refl
-no-even-steps NoFormula s p q mode ws x h = absurd h
-
-pub even-steps : (s : ℕ) (h : Shape) (ws : List ℤ) (x : ℤ) → EvenFormula h ws → stepsBy (h .kind) s x ≡ 0
-even-steps s h ws x e = no-even-steps (h .kind) s (h .p) (h .q) (h .mode) ws x e
+pub even-no-steps : (s : ℕ) (h : Shape) (ws : List ℤ) (x : ℤ) → EvenFormula h ws → stepsBy (h .kind) s x ≡ 0
+even-no-steps s h ws x e = other-kinds (h .kind) s x (λ r. subst (λ (k : Kind). EvenBy k (h .p) (h .q) (h .mode) ws) r e)

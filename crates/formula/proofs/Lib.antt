@@ -5,6 +5,6 @@ pub mod StaysInRange
 pub mod ReadyLaws
 pub mod JudgedLaws
 pub mod Distance
-pub mod BothSides
 pub mod FewSteps
+pub mod BothSides
 pub mod CheckedByHand

@@ -26,7 +26,7 @@ use Rattle.formula.specs.declared.Kind.the-variants.{Polynomial, Rationa
 use Rattle.formula.specs.declared.Shape.{Shape}
 use Rattle.formula.specs.declared.Worked.{Worked}
 
--- ---- the answer at x, by the kind
+-- ---- the answer at x, by the kind. A root is the number that Heron's rule ends with: `heron-is` of the crate `root`
 abbrev pub answerBy : Kind → ℕ → ℕ → ℕ → ℕ → List ℤ → ℤ → ℤ
 answerBy Polynomial s p q mode ws x = horner s (take p ws) x
 answerBy Rational s p q mode ws x = rationalOf s (take p ws) (take q (drop p ws)) x
@@ -165,13 +165,15 @@ root-numbers :
 unfolding rootIn
 root-numbers = (refl, refl, refl)
 
--- a root tells its steps, 6 of 4, 5 of 2 and none of 0, and the other kinds have none
+-- a root tells its steps, 6 of four, 5 of two and none of 0, and of the word 1 at 16 places 4; the constant 3 tells none, and neither do the other kinds
 root-steps :
-    (stepsBy Root 24 (pos 67108864) ≡ 6)
+    (workedOf 24 (record { kind = Root; p = 0; q = 0; mode = 0 }) [] (pos 67108864) ≡ worked (pos 33554432) 6)
     × (workedOf 24 (record { kind = Root; p = 0; q = 0; mode = 0 }) [] (pos 33554432) ≡ worked (pos 23726566) 5)
     × (workedOf 24 (record { kind = Root; p = 0; q = 0; mode = 0 }) [] (pos 0) ≡ worked (pos 0) 0)
-unfolding rootIn heronFrom digitsIn
-root-steps = (refl, refl, refl)
+    × (workedOf 16 (record { kind = Root; p = 0; q = 0; mode = 0 }) [] (pos 1) ≡ worked (pos 256) 4)
+    × (workedOf 24 (record { kind = Polynomial; p = 1; q = 0; mode = 0 }) (pos 3 ∷ []) (pos 67108864) ≡ worked (pos 3) 0)
+unfolding rootIn heronFrom digitsIn horner rounded
+root-steps = (refl, refl, refl, refl, refl)
 
 no-steps :
     (stepsBy Polynomial 24 (pos 67108864) ≡ 0)

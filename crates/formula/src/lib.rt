@@ -33,8 +33,7 @@ pub struct Formula {
     pub words: [i32; 32],
 }
 
-// What a formula answers: a struct, so that more can be told beside the word. `steps` are those of Heron's rule to a root, the last one
-// included; the other kinds take none.
+// What a formula answers: the word, and beside it the steps of Heron's rule to a root, the last one included; the other kinds take none.
 pub struct Worked {
     pub word: i32,
     pub steps: u16,
@@ -55,14 +54,13 @@ fn without_steps(word: i32) -> Worked
     Worked { word, steps: 0 }
 }
 
-fn root_of(x: i32, s: u32) -> Worked
+fn root_with_steps(x: i32, s: u32) -> Worked
     requires { ⌜ Rootable s x ⌝ }
     ensures { λ r. ⌜ r ≡ worked (rootWord s x) (rootedBy s x .steps) ⌝ }
 {
     let r = root::root(x, s);
-    let word = r.root as i32;
     Worked {
-        word,
+        word: r.root as i32,
         steps: r.steps,
     }
 }
@@ -78,7 +76,7 @@ pub fn answer(b: &[u8], at: usize, shape: Shape, x: i32, s: u32) -> Worked
         Kind::Polynomial => without_steps(polynomial::answer(b, at, p, x, s)),
         Kind::Rational => without_steps(rational::answer(b, at, p, shape.q as usize, x, s)),
         Kind::Fraction => without_steps(fraction::answer(b, at, p, shape.mode as u32, x, s)),
-        Kind::Root => root_of(x, s),
+        Kind::Root => root_with_steps(x, s),
         Kind::Odd => without_steps(odd_even::odd(b, at, p, x, s)),
         Kind::Even => without_steps(odd_even::even(b, at, p, x, s)),
         Kind::NoFormula => without_steps(0),

@@ -1,4 +1,4 @@
--- Heron's rule takes at most 7 steps to the root of a number below 2^60. How near w is to the root of v is said by squares: p · w² ≤ q · v says
+-- Promise: Heron's rule takes at most 7 steps to the root of a number below 2^60. How near w is to the root of v is said by squares: p · w² ≤ q · v says
 -- that w is at most the root of q / p times the root of v. After a step the same holds with 4pq and (p + q)² for p and q. From (1, 4) at the start
 -- five steps lead to within one of the root; then there are two more.
 use Rattle.whole.proofs.Basics.{_≡_, refl, ap, subst, ℕ, suc, zero, _+_, _*_, _/_, _^_, _≤_, _<_, arith, ℤ, pos, natAbs}
@@ -11,7 +11,7 @@ use Rattle.root.specs.Root.{rootOf, Rootable}
 use Rattle.root.specs.Heron.{digitsIn, start, next, rooted, heronFrom, heronOf, rootedBy}
 use Rattle.root.specs.declared.Rooted.{Rooted}
 use Rattle.root.proofs.RootLaws.{square-lt, root-of, root-most}
-use Rattle.root.proofs.HeronLaws.{part, not-below, next-pos, stays, fell, start-near, start-pos, goes-on, ends}
+use Rattle.root.proofs.HeronLaws.{part, not-below, next-pos, stays, falls-only, start-near, start-pos, goes-on, ends}
 
 -- from w on, at most m steps
 abbrev AtMost : ℕ → ℕ → ℕ → Type 0
@@ -62,7 +62,7 @@ nearer p q v w h g f k =
 
 -- a step from w, which is so near, and what is known of the next number
 step : (v w p q m : ℕ) → 0 < v → 0 < w → p ≤ q → p * (w * w) ≤ q * v → ((u : ℕ) → 0 < u → 4 * (p * q) * (u * u) ≤ (p + q) * (p + q) * v → AtMost v u m) → AtMost v w (suc m)
-step v w p q m hv hw g f onward = one-more v w m (λ l. onward (next v w) (next-pos v w hv hw) (nearer p q v w hw g f (fell v w hw l)))
+step v w p q m hv hw g f onward = one-more v w m (λ l. onward (next v w) (next-pos v w hv hw) (nearer p q v w hw g f (falls-only v w hw l)))
 
 -- ---- after five steps: with K² and L² for p and q, and L one above K, w is not above the root + 1
 rooted-near : (K L v w r : ℕ) → 0 < L → v < (r + 1) * (r + 1) → K * K * (w * w) ≤ L * L * v → K * w < L * (r + 1)
@@ -96,6 +96,3 @@ few-steps s x r = steps-most (natAbs x * unit s) (scaled-most (natAbs x) s (omeg
 pub seven-steps : rootedBy 24 (pos 67108868) ≡ rooted 33554432 7
 unfolding heronFrom digitsIn
 seven-steps = refl
-
-pub never-above-eight : (s : ℕ) (x : ℤ) → Rootable s x → rootedBy s x .steps ≤ 8
-never-above-eight s x r = omega (arith, few-steps s x r)

@@ -1,13 +1,14 @@
 -- Heron's rule: it starts above the root, it falls while it is above, it never passes below, and where it stops falling it is the root.
-use Rattle.whole.proofs.Basics.{_≡_, sym, ap, subst, Bool, cond, ℕ, suc, zero, _+_, _*_, _/_, _^_, _≤_, _<_, arith, lt-ltb, le-ltb}
-use native.Mathlib.Nat.{mul-le-mul-left, div-add-mod, mod-lt, lt-of-mul-lt-mul-left, le-dest, pow-succ', pow-zero}
+use Rattle.whole.proofs.Basics.{_≡_, sym, ap, subst, Bool, cond, ℕ, suc, zero, _+_, _*_, _/_, _^_, _≤_, _<_, arith, pos, lt-ltb, le-ltb}
+use native.Mathlib.Nat.{mul-le-mul-left, div-add-mod, mod-lt, lt-of-mul-lt-mul-left, le-dest, pow-succ', pow-zero, zero-mul}
 use native.Mathlib.Decide.{decLe}
 use lib.Pow.{pow-pos, pow-mono, pow-add}
+use Rattle.word.specs.Words.{unit}
 use Rattle.root.specs.Root.{RootOf, rootOf}
-use Rattle.root.specs.Heron.{digits, start, next, rooted, heronFrom, heronOf}
+use Rattle.root.specs.Heron.{digits, start, next, rooted, heronFrom, heronOf, rootedBy}
 use Rattle.root.specs.declared.Rooted.{Rooted}
 use Rattle.root.proofs.DigitsLaws.{digits-of, digits-most}
-use Rattle.root.proofs.RootLaws.{root-is}
+use Rattle.root.proofs.RootLaws.{root-is, root-largest}
 
 -- ---- a step
 pub part : (v w : ℕ) → 0 < w → (w * (v / w) ≤ v) × (v < w * (v / w) + w)
@@ -52,15 +53,15 @@ stays v w p h =
     let q = lt-of-mul-lt-mul-left w {m = w} {n = v / w + 1} (omega (arith, part v w p)) in
     omega arith
 
-pub fell : (v w : ℕ) → 0 < w → next v w < w → v < w * w
-fell v w p h = by (decLe (w * w) v)
+pub falls-only : (v w : ℕ) → 0 < w → next v w < w → v < w * w
+falls-only v w p h = by (decLe (w * w) v)
   where
     by : Dec (w * w ≤ v) → v < w * w
     by (yes f) = absurd (omega (arith, stays v w p f))
     by (no f) = omega arith
 
-ended : (v w : ℕ) → w ≤ next v w → w * w ≤ v
-ended v w h = by (decLe (w * w) v)
+stays-only : (v w : ℕ) → w ≤ next v w → w * w ≤ v
+stays-only v w h = by (decLe (w * w) v)
   where
     by : Dec (w * w ≤ v) → w * w ≤ v
     by (yes f) = f
@@ -73,16 +74,16 @@ start-above v =
     let f : digits v ≤ k + k = omega arith in
     omega (arith, digits-of v .below, pow-mono {i = digits v} {j = k + k} f, pow-add 2 k k)
 
-least-even : (m v : ℕ) → 0 < v → 2 ^ m ≤ 2 * v + 1 → 2 * 2 ^ m ≤ 4 * v
-least-even zero v h f = omega (arith, pow-zero 2)
-least-even (suc m) v h f = omega (arith, pow-succ' 2 m)
+least-twice : (m v : ℕ) → 0 < v → 2 ^ m ≤ 2 * v + 1 → 2 * 2 ^ m ≤ 4 * v
+least-twice zero v h f = omega (arith, pow-zero 2)
+least-twice (suc m) v h f = omega (arith, pow-succ' 2 m)
 
 pub start-near : (v : ℕ) → 0 < v → start v * start v ≤ 4 * v
 start-near v h =
     let m = digits v in
     let k = (m + 1) / 2 in
     let f : k + k ≤ suc m = omega arith in
-    omega (arith, least-even m v h (digits-of v .least), pow-succ' 2 m, pow-mono {i = k + k} {j = suc m} f, pow-add 2 k k)
+    omega (arith, least-twice m v h (digits-of v .least), pow-succ' 2 m, pow-mono {i = k + k} {j = suc m} f, pow-add 2 k k)
 
 pub start-pos : (v : ℕ) → 0 < start v
 start-pos v = pow-pos ((digits v + 1) / 2)
@@ -109,7 +110,7 @@ walked zero v w n p h f g = absurd (omega arith)
 walked (suc k) v w n p h f g = by (decLe w (next v w)) (λ l. walked k v (next v w) (suc n) p (next-pos v w p h) (omega arith) (not-below v w h))
   where
     by : Dec (w ≤ next v w) → (next v w < w → RootOf v (heronFrom k v (next v w) (suc n) .root)) → RootOf v (heronFrom (suc k) v w n .root)
-    by (yes l) onward = subst (λ (r : Rooted). RootOf v (r .root)) (sym (ends k v w n l)) (record { low = ended v w l; high = g })
+    by (yes l) onward = subst (λ (r : Rooted). RootOf v (r .root)) (sym (ends k v w n l)) (record { low = stays-only v w l; high = g })
     by (no l) onward = let l₁ : next v w < w = omega arith in subst (λ (r : Rooted). RootOf v (r .root)) (sym (goes-on k v w n l₁)) (onward l₁)
 
 pub heron-root : (v : ℕ) → RootOf v (heronOf v .root)
@@ -118,3 +119,10 @@ heron-root (suc m) = walked (start (suc m)) (suc m) (start (suc m)) 0 (omega ari
 
 pub heron-is : (v : ℕ) → heronOf v .root ≡ rootOf v
 heron-is v = root-is v (heronOf v .root) (heron-root v .low) (heron-root v .high)
+
+pub heron-largest : (v q : ℕ) → q * q ≤ v → q ≤ heronOf v .root
+heron-largest v q h = omega (arith, heron-is v, root-largest v q h)
+
+-- the root of 0 takes no step, at any number of binary places
+pub zero-takes-none : (s : ℕ) → rootedBy s (pos 0) ≡ rooted 0 0
+zero-takes-none s = ap heronOf (zero-mul (unit s))

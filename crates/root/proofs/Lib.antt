@@ -1,4 +1,4 @@
--- Laws of the root and of Heron's rule, which other crates use.
+-- Laws of the root, of binary digits and of Heron's rule. `HeronLaws` and `FewSteps` hold promises.
 pub mod RootLaws
 pub mod DigitsLaws
 pub mod HeronLaws

@@ -7,7 +7,7 @@ use lib.IntN.{ℤ, pos, natAbs}
 use Rattle.word.specs.Words.{unit}
 use Rattle.root.specs.declared.Rooted.{Rooted}
 
--- b, the number of binary digits of v; counted up to k, and v has no more than v
+-- b, the number of binary digits of v: at most k of them, and v has at most v
 unfoldable pub digitsIn : ℕ → ℕ → ℕ
 digitsIn zero v = 0
 digitsIn (suc k) zero = 0
@@ -16,7 +16,7 @@ digitsIn (suc k) (suc n) = suc (digitsIn k (suc n / 2))
 abbrev pub digits : ℕ → ℕ
 digits v = digitsIn v v
 
--- start from 2 to the power b / 2 rounded up
+-- start from 2 to the power b / 2 rounded up: it is the exponent that is rounded
 abbrev pub start : ℕ → ℕ
 start v = 2 ^ ((digits v + 1) / 2)
 
@@ -28,7 +28,7 @@ abbrev pub rooted : ℕ → ℕ → Rooted
 rooted r n = record { root = r; steps = n }
 
 -- from w on, with n steps done, until the new number is not below the old. The old one is then the root, and the last step counts.
--- It goes on for at most k steps; each makes w less, so that w are enough
+-- It goes on for at most k steps; each makes w less, so that k = w is enough, and more change nothing (`enough-allowed` of proofs/LeftLaws.antt)
 unfoldable pub heronFrom : ℕ → ℕ → ℕ → ℕ → Rooted
 heronFrom zero v w n = rooted w n
 heronFrom (suc k) v w n = let onward = heronFrom k v (next v w) (suc n) in cond (ltb (next v w) w) onward (rooted w (suc n))
@@ -60,11 +60,17 @@ unfolding heronFrom
 from-four = (refl, refl, refl)
 
 -- of 0, which takes no step; of 1, and around the squares of 2 and 3
-small-roots : (heronOf 0 ≡ rooted 0 0) × (heronOf 1 ≡ rooted 1 2) × (heronOf 3 ≡ rooted 1 2) × (heronOf 4 ≡ rooted 2 2) × (heronOf 8 ≡ rooted 2 3) × (heronOf 9 ≡ rooted 3 2)
+small-roots :
+    (heronOf 0 ≡ rooted 0 0)
+    × (heronOf 1 ≡ rooted 1 2)
+    × (heronOf 3 ≡ rooted 1 2)
+    × (heronOf 4 ≡ rooted 2 2)
+    × (heronOf 8 ≡ rooted 2 3)
+    × (heronOf 9 ≡ rooted 3 2)
 unfolding heronFrom digitsIn
 small-roots = (refl, refl, refl, refl, refl, refl)
 
--- of words at 24 places: 0, one step, one, two, and the largest
+-- of the words 0, 1, one, two and the largest, at 24 places
 roots-of-words :
     (rootedBy 24 (pos 0) ≡ rooted 0 0)
     × (rootedBy 24 (pos 1) ≡ rooted 4096 5)
@@ -74,7 +80,7 @@ roots-of-words :
 unfolding heronFrom digitsIn
 roots-of-words = (refl, refl, refl, refl, refl)
 
--- a step at 16 places and at 28
+-- of the word 1 at 16 places and at 28
 at-other-places : (rootedBy 16 (pos 1) ≡ rooted 256 4) × (rootedBy 28 (pos 1) ≡ rooted 16384 5)
 unfolding heronFrom digitsIn
 at-other-places = (refl, refl)

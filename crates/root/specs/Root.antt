@@ -2,9 +2,9 @@
 use mathlib.Core.Path.{_≡_, refl}
 use mathlib.Core.Bool.{cond}
 use Prim.Native.Nat.{ℕ, zero, suc, _+_, _*_, _/_, _<_, _≤_}
-use lib.Dec.{leb}
-use lib.IntN.{ℤ, pos, natAbs}
-use lib.Signed.{_≤ℤ_}
+use lib.Dec.{leb, lit≤}
+use lib.IntN.{ℤ, pos, negsuc, natAbs}
+use lib.Signed.{_≤ℤ_, leZ-yes}
 use Rattle.word.specs.Words.{Word, Scale, unit}
 
 -- r is the largest whole number whose square is not above v
@@ -49,6 +49,15 @@ of-a-step = refl
 of-two : rootWord 24 (pos 33554432) ≡ pos 23726566
 unfolding rootIn
 of-two = refl
+
+-- what is asked holds of the words 1, 0 and the largest, at 24 places, at the fewest and at the most, and of nothing below 0
+rootable : Rootable 24 (pos 1) × Rootable 16 (pos 0) × Rootable 28 (pos 2147483647) × (Rootable 24 (negsuc 0) → ⊥)
+rootable = (
+  (record { least = lit≤ tt; most = lit≤ tt }, lit≤ tt, leZ-yes tt),
+  (record { least = lit≤ tt; most = lit≤ tt }, lit≤ tt, leZ-yes tt),
+  (record { least = lit≤ tt; most = lit≤ tt }, lit≤ tt, leZ-yes tt),
+  λ r. r .2 .le,
+)
 
 -- a digit more to the root of 2, for 8 and for 9
 a-digit : (digitMore 8 1 ≡ 2) × (digitMore 9 1 ≡ 3)

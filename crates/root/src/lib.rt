@@ -10,7 +10,7 @@ pub struct Rooted {
     pub steps: u16,
 }
 
-// The first step of Heron's rule, from 2 to the power of half the binary digits, rounded up: by that a shift divides.
+// The first step of Heron's rule, from w = 2^half, where `half` is half the number of v's binary digits, rounded up. To divide by w is to shift.
 fn first_step(v: u64) -> u32
     requires { ⌜ v < 2 ^ 60 ⌝ }
     ensures { λ r. ⌜ r ≡ next v (start v) ⌝ }
@@ -20,10 +20,10 @@ fn first_step(v: u64) -> u32
     ((1u32 << half) + (v >> half) as u32) / 2
 }
 
-// Heron's rule for v. It starts above the root, so the first step never ends it.
-// It ends when the new number, half of w + q, is not below the old, and so exactly when q is not: near a square less one the numbers swing between two,
-// and never agree.
-// `less` is w - 1, in 32 bits: of the sum `less + 1` the compiler knows that it is not 0, so that it tests no divisor, and that it is short.
+// Heron's rule for v. The start is above the root, so the first step always falls, and stands before the loop.
+// The rule ends when the new number, (w + q) / 2, is not below w; that is so exactly when q is not below w.
+// It cannot wait for two numbers that agree: just below a square they swing between two for ever, as for 8 between 2 and 3.
+// `less` is w - 1, in 32 bits: so the compiler knows that the divisor `less + 1` is not 0, and need not test it, and that it is short.
 fn heron(v: u64) -> Rooted
     requires { ⌜ v < 2 ^ 60 ⌝ }
     ensures { λ r. ⌜ r ≡ heronOf v ⌝ }
@@ -44,6 +44,7 @@ fn heron(v: u64) -> Rooted
     }
 }
 
+// The root of x at s binary places, and its steps: v is x·2^s.
 pub fn root(x: i32, s: u32) -> Rooted
     requires { ⌜ Rootable s x ⌝ }
     ensures { λ r. ⌜ r ≡ rootedBy s x ⌝ }

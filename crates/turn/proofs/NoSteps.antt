@@ -6,13 +6,13 @@ use Rattle.turn.specs.Sine.{sineOf, cosineOf}
 use Rattle.turn.proofs.EveryAngle.{ThreeWays, three-ways}
 
 module _ (s : ℕ) (bytes : List ℕ) (n : ℕ) where
-  pub sine-steps : (a : ℕ) → evaluationSteps (sineOf s bytes n a) ≡ 0
-  sine-steps a = at (three-ways s bytes n a)
+  pub sine-no-steps : (a : ℕ) → evaluationSteps (sineOf s bytes n a) ≡ 0
+  sine-no-steps a = at (three-ways s bytes n a)
     where
       at : ThreeWays s bytes n (sineOf s bytes n a) → evaluationSteps (sineOf s bytes n a) ≡ 0
       at (inl (r, e, q)) = ap evaluationSteps q
       at (inr (inl q)) = ap evaluationSteps q
       at (inr (inr (w, q))) = ap evaluationSteps q
 
-  pub cosine-steps : (a : ℕ) → evaluationSteps (cosineOf s bytes n a) ≡ 0
-  cosine-steps a = sine-steps (angleSum a quarterTurn)
+  pub cosine-no-steps : (a : ℕ) → evaluationSteps (cosineOf s bytes n a) ≡ 0
+  cosine-no-steps a = sine-no-steps (angleSum a quarterTurn)

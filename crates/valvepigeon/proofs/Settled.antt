@@ -11,11 +11,9 @@ use Rattle.sheet.specs.Reader.{formulaRead}
 use Rattle.sheet.specs.declared.answers.Found.{Found}
 use Rattle.sheet.specs.declared.answers.Found.the-variants.{Given, Refused as Withheld}
 use Rattle.desk.specs.Desk.{evaluatedDouble}
-use Rattle.answering.specs.declared.answers.Evaluation.{Evaluation}
-use Rattle.answering.specs.declared.answers.Evaluation.the-variants.{Answered, Refused}
-use Rattle.c_answers.specs.Answers.{ShownBy, Spans}
-use Rattle.c_answers.specs.declared.answers.ShownValue.{ShownValue}
+use Rattle.c_answers.specs.Answers.{Spans}
 use Rattle.c_answers.specs.declared.answers.IntervalEnds.{IntervalEnds}
+use Rattle.c_answers.proofs.DoubleLaws.{shown-by-once}
 use Rattle.valvepigeon.specs.Places.{places}
 use Rattle.valvepigeon.proofs.vp_count.Kinds as count-kinds
 use Rattle.valvepigeon.proofs.vp_count.Reads as count-reads
@@ -76,13 +74,8 @@ formula-settled κs a x y s t p q = p ∙ sym q
 pub evaluate-settled : Settled evaluate-kinds.ps evaluate-kinds.r evaluate-reads.Learnt
 evaluate-settled κs a x y s t p q = p ∙ sym q
 
--- only one double is exactly a word divided by 2^24
-shown-once : (e : Evaluation) (x y : ShownValue) → ShownBy places e x → ShownBy places e y → x ≡ y
-shown-once (Answered w) x y p q = λ i. record { refused = (p .0 ∙ sym (q .0)) i; place = (p .1 ∙ sym (q .1)) i; value = exactly-unique places (w .word) (x .value) (y .value) (p .2) (q .2) i; steps = (p .3 ∙ sym (q .3)) i }
-shown-once (Refused r) x y p q = p ∙ sym q
-
 pub evaluate-double-settled : Settled double-kinds.ps double-kinds.r double-reads.Learnt
-evaluate-double-settled κs a x y s t p q = shown-once (evaluatedDouble places (now (a .0)) (a .1 .0) (a .1 .1 .0)) x y p q
+evaluate-double-settled κs a x y s t p q = shown-by-once places (evaluatedDouble places (now (a .0)) (a .1 .0) (a .1 .1 .0)) x y p q
 
 spans-once : (a : Found) (f : Formula) (x y : IntervalEnds) → Spans places a f x → Spans places a f y → x ≡ y
 spans-once Given f x y p q =

@@ -80,8 +80,8 @@ answer-requires-3 c κs =
     let e = c .before .enum-told3 .given .1 in
     (reach d Fraction e, subst (λ (l : List ℤ). FractionReady (a .s) (a .shape .mode) l (first d) (back w32 (a .x))) (ws-is d Fraction e) (subst (FractionReady (a .s) (a .shape .mode) (ws d) (first d)) (sym (x-is d)) (fraction-ready (a .s) (a .shape) (ws d) (a .x) (d .pre .1) e)))
 
-root-of-requires : tie.Need-root-of-requires
-root-of-requires c κs =
+root-with-steps-requires : tie.Need-root-with-steps-requires
+root-with-steps-requires c κs =
     let d = c .before .before .before .before in
     let a = d .args in
     subst (Rootable (a .s)) (sym (x-is d)) (root-ready (a .s) (a .shape) (ws d) (a .x) (d .pre .1) (c .enum-told4 .given .1))
@@ -130,7 +130,7 @@ returns-3 c =
 returns-4 : tie.Need-returns-4
 returns-4 c =
     let b = c .before in
-    c .root-of .ensures ∙ whole (b .before .before .before .before) Root (b .enum-told4 .given .1)
+    c .root-with-steps .ensures ∙ whole (b .before .before .before .before) Root (b .enum-told4 .given .1)
 
 returns-5 : tie.Need-returns-5
 returns-5 c =
@@ -170,7 +170,7 @@ answer-spec =
     answer-requires-3
     (λ c. search needs)
     (λ c. search needs)
-    root-of-requires
+    root-with-steps-requires
     (λ c. search needs)
     odd-requires
     (λ c. search needs)

@@ -37,9 +37,6 @@ module _ (c : tie.Start) where
   abbrev v : ℕ
   v = c .args .v
 
-  few-digits : half v ≤ 30
-  few-digits = half-most v (c .pre)
-
   quotient-fits : v / 2 ^ half v < 2 ^ 30
   quotient-fits = omega (arith, divided v (c .pre), below v (c .pre), start-most v (c .pre))
 
@@ -52,9 +49,9 @@ first-step-spec =
     (tie.spec
     (λ c. leading-le 64 (v c))
     (λ c. record { fits = omega arith })
-    (λ c. omega (arith, few-digits c))
-    (λ c. record { fits = omega (arith, few-digits c) })
-    (λ c. omega (arith, few-digits c))
+    (λ c. omega (arith, half-most (v c) (c .pre)))
+    (λ c. record { fits = omega (arith, half-most (v c) (c .pre)) })
+    (λ c. omega (arith, half-most (v c) (c .pre)))
     (λ c. record { fits = omega (arith, quotient-fits c) })
     (λ c. record { fits = sum-fits c })
     (λ c. ap₂ (λ (a b : ℕ). (a + b) / 2) (shifted (v c) (c .pre)) (divided (v c) (c .pre))))

@@ -3,13 +3,13 @@ use Rattle.whole.proofs.Basics.{_≡_, _∙_, sym, ap, subst, ℕ, suc, _+_, _-
 use native.Mathlib.Nat.{div-le-self}
 use Rattle.root.specs.Heron.{start, next, rooted, heronOf}
 use Rattle.root.proofs.HeronLaws.{next-pos, start-above, start-pos, start-most, falls}
-use Rattle.root.proofs.LeftLaws.{Left, left-first, left-next, left-last, left-most}
+use Rattle.root.proofs.LeftLaws.{Left, left-first, left-next, left-last, left-counted}
 use Rattle.root.proofs.FewSteps.{steps-most}
 use Rattle.root.proofs.heron.Statement.{statement}
 use Rattle.root.proofs.heron.Tie as tie
 
 abbrev Midst : ℕ → ℕ → ℕ → Type 0
-Midst v w n = (0 < w) × (w ≤ 2147483648) × Left v w n
+Midst v w n = (0 < w) × (w ≤ 2 ^ 30) × Left v w n
 
 abbrev Inv-loop : tie.InvT-loop
 Inv-loop v less₀ steps₀ less steps = Midst v (less + 1) steps
@@ -29,7 +29,7 @@ first : (v : ℕ) → 0 < v → v < 2 ^ 60 → Midst v (next v (start v)) 1
 first v p h = onward v (start v) 0 p (start-pos v, omega (arith, start-most v h), left-first v p) (falls v (start v) (start-above v))
 
 few : (v w n : ℕ) → v < 2 ^ 60 → Midst v w n → n ≤ 7
-few v w n h i = omega (arith, left-most v w n (i .2), steps-most v h)
+few v w n h i = omega (arith, left-counted v w n (i .2), steps-most v h)
 
 started : (c : tie.After-first-step Inv-loop μ-loop) → Midst (c .before .before .args .v) (c .first-step .result) 1
 started c =
@@ -51,8 +51,8 @@ loop-holds c = as-coded (c .before .before .args .v) _ 0 (started c)
 add-steps : tie.Need-add-steps Inv-loop μ-loop
 add-steps c = let d = c .before .before .before in record { fits = omega (arith, few (d .args .v) (c .loop .less + 1) (c .loop .steps) (d .pre) (c .loop .inv)) }
 
-add-next : tie.Need-add-less Inv-loop μ-loop
-add-next c =
+add-less : tie.Need-add-less Inv-loop μ-loop
+add-less c =
     let l = c .before .loop in
     let d = c .before .before .before .before in
     record { fits = omega (arith, l .inv .1, d .pre, div-le-self (d .args .v) (l .less + 1)) }
@@ -84,7 +84,7 @@ heron-spec =
     (λ c. record { fits = omega (arith, c .loop .inv .1) })
     (λ c. c .loop .inv .0)
     add-steps
-    add-next
+    add-less
     (λ c. again c .0)
     (λ c. record { fits = omega (arith, again c .1) })
     loop-less

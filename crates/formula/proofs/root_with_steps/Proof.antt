@@ -1,4 +1,4 @@
--- `formula::root_of` meets its contract: what Heron's rule ends with is the root, and a word.
+-- `formula::root_with_steps` meets its contract: what Heron's rule ends with is the root, and a word.
 use Rattle.whole.proofs.Basics.{_≡_, _∙_, ap, ap₂, sym, subst, ℕ, _*_, arith, pos, natAbs, w32, SFits}
 use Rattle.whole.proofs.Diff.{n}
 use Rattle.whole.proofs.Fit.{fit}
@@ -11,8 +11,8 @@ use Rattle.root.specs.declared.Rooted.{Rooted}
 use Rattle.root.proofs.RootLaws.{root-most}
 use Rattle.root.proofs.HeronLaws.{heron-is}
 use Rattle.formula.specs.Formula.{worked}
-use Rattle.formula.proofs.root_of.Statement.{statement}
-use Rattle.formula.proofs.root_of.Tie as tie
+use Rattle.formula.proofs.root_with_steps.Statement.{statement}
+use Rattle.formula.proofs.root_with_steps.Tie as tie
 
 x-is : (c : tie.Start) → back w32 (c .args .x) ≡ c .args .x
 x-is c = held (arg (c .fits .x))
@@ -38,5 +38,5 @@ returns c =
     let d = c .before in
     ap₂ worked (held (arg (root-fits d)) ∙ ap pos (root-is d)) (ap (λ (r : Rooted). r .steps) (rooted-is d))
 
-pub root-of-spec : {M : Type 1} → statement M
-root-of-spec = tie.close (tie.spec root-requires (λ c. root-fits (c .before)) returns)
+pub root-with-steps-spec : {M : Type 1} → statement M
+root-with-steps-spec = tie.close (tie.spec root-requires (λ c. root-fits (c .before)) returns)
