@@ -18,14 +18,14 @@ pub fn get2(s: &[u8], at: usize) -> u16
     requires { ⌜ at + 2 ≤ length (now s) ⌝ }
     ensures { λ r. ⌜ r ≡ number2 (now (s .entry)) at ⌝ }
 {
-    (wide(s[at]) + 256 * wide(s[at + 1])) as u16
+    (wide(s[at]) + (wide(s[at + 1]) << 8)) as u16
 }
 
 pub fn get4(s: &[u8], at: usize) -> u32
     requires { ⌜ at + 4 ≤ length (now s) ⌝ }
     ensures { λ r. ⌜ r ≡ number4 (now (s .entry)) at ⌝ }
 {
-    wide(s[at]) + 256 * wide(s[at + 1]) + 65536 * wide(s[at + 2]) + 16777216 * wide(s[at + 3])
+    wide(s[at]) + (wide(s[at + 1]) << 8) + (wide(s[at + 2]) << 16) + (wide(s[at + 3]) << 24)
 }
 
 // The 32-bit pattern as a signed number.

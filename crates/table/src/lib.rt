@@ -22,7 +22,7 @@ pub struct Field {
     pub at: usize,
     pub least: u16,
     pub most: u16,
-    pub each: usize,
+    pub each: u16,
 }
 
 // A record of the kind has `head` bytes, then base + p.each * p + q.each * q pieces of `width` bytes each: a formula's
@@ -33,7 +33,7 @@ pub struct Row {
     pub class: Class,
     pub kind: Kind,
     pub head: usize,
-    pub width: usize,
+    pub width: u16,
     pub base: usize,
     pub p: Field,
     pub q: Field,
@@ -164,7 +164,7 @@ fn field_from(numbers: [u16; 19], k: usize) -> Field
         at: numbers[k] as usize,
         least: numbers[k + 1],
         most: numbers[k + 2],
-        each: numbers[k + 3] as usize,
+        each: numbers[k + 3],
     }
 }
 
@@ -180,7 +180,7 @@ pub fn row_of(code: u16) -> Row
         class,
         kind,
         head: numbers[0] as usize,
-        width: numbers[1] as usize,
+        width: numbers[1],
         base: numbers[2] as usize,
         p: field_from(numbers, 3),
         q: field_from(numbers, 7),
@@ -212,7 +212,7 @@ pub fn pieces_by(row: Row, p: u16, q: u16) -> usize
     ensures exact { λ r. ⌜ r ≡ piecesBy row p q ⌝ }
     ensures few { λ r. ⌜ r ≤ 32 ⌝ }
 {
-    row.base + row.p.each * (p as usize) + row.q.each * (q as usize)
+    row.base + (word::times(row.p.each, p) as usize) + (word::times(row.q.each, q) as usize)
 }
 
 pub fn length_by(row: Row, p: u16, q: u16) -> usize
@@ -222,5 +222,5 @@ pub fn length_by(row: Row, p: u16, q: u16) -> usize
     ensures exact { λ r. ⌜ r ≡ lengthBy row p q ⌝ }
     ensures short { λ r. ⌜ r ≤ 120 ⌝ }
 {
-    row.head + row.width * pieces_by(row, p, q)
+    row.head + (word::times(row.width, pieces_by(row, p, q) as u16) as usize)
 }

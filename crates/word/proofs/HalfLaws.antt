@@ -1,5 +1,5 @@
 -- The laws of naturals that are rounded to the nearest: the result is the one q with 2·d·q ≤ 2·a + d < 2·d·q + 2·d.
-use Rattle.whole.proofs.Basics.{_≡_, refl, ℕ, suc, zero, _+_, _*_, _≤_, _<_, arith}
+use Rattle.whole.proofs.Basics.{_≡_, refl, sym, ℕ, suc, zero, _+_, _*_, _/_, _≤_, _<_, arith}
 use native.Mathlib.Nat.{div-add-mod, mod-lt, lt-of-mul-lt-mul-left}
 use lib.Ieee.Nearest.{div-same}
 use Rattle.word.specs.Rounded.{halfUp}
@@ -15,6 +15,10 @@ half-is a d q h f g =
     let x = lt-of-mul-lt-mul-left (2 * d) {m = q} {n = halfUp a d + 1} (omega (arith, half-high a d h)) in
     let y = lt-of-mul-lt-mul-left (2 * d) {m = halfUp a d} {n = q + 1} (omega (arith, half-low a d h)) in
     omega arith
+
+-- for the function that shifts, and so rounds down: half of the divisor is added first
+pub half-shift : (a h d : ℕ) → 0 < d → 2 * h ≡ d → (a + h) / d ≡ halfUp a d
+half-shift a h d f e = sym (half-is a d ((a + h) / d) f (omega (arith, div-add-mod (a + h) d)) (omega (arith, div-add-mod (a + h) d, mod-lt (a + h) f)))
 
 pub half-zero : (d : ℕ) → halfUp 0 d ≡ 0
 half-zero zero = refl

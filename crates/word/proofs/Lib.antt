@@ -1,4 +1,5 @@
 -- Laws of the operations on words, lowest first; other crates use all but `HalfLaws`.
+pub mod HalvesLaws
 pub mod HalfLaws
 pub mod RoundedLaws
 pub mod SignLaws

@@ -1,7 +1,7 @@
 -- The laws of rounding: odd, how near, where a tie goes, that these two determine the result, how large, exact where it divides. They are laws of
 -- naturals, carried to the numbers below zero. A change of the tie rule changes `rounded-odd`, `rounded-tie`, `rounded-determined` and what the
 -- functions use; the other laws keep their statements.
-use Rattle.whole.proofs.Basics.{_≡_, _∙_, refl, sym, ap, ap₂, not, ℕ, suc, zero, _+_, _-_, _*_, _/_, _≤_, _<_, arith, ℤ, pos, negsuc, negℤ, natAbs, _+ℤ_, _-ℤ_, _*ℤ_}
+use Rattle.whole.proofs.Basics.{_≡_, _∙_, refl, sym, ap, ap₂, Bool, true, false, not, ℕ, suc, zero, _+_, _-_, _*_, _/_, _≤_, _<_, arith, ℤ, pos, negsuc, negℤ, natAbs, _+ℤ_, _-ℤ_, _*ℤ_}
 use mathlib.Core.Bool.{Bool·beq}
 use native.Mathlib.Decide.{decLe}
 use native.Mathlib.Nat.{div-add-mod, div-eq-of-lt, div-zero, mod-lt, lt-of-mul-lt-mul-left}
@@ -103,38 +103,11 @@ rounded-same (pos a) d (negsuc b) c D C e = absurd (omega (arith, same-out (n a 
 rounded-same (negsuc a) d (pos b) c D C e = absurd (omega (arith, same-out (v (negsuc a) ⊗ n c) (n b ⊗ n d) e))
 rounded-same (negsuc a) d (negsuc b) c D C e = ap (λ (k : ℕ). negℤ (pos k)) (half-same (suc a) d (suc b) c D C (omega (arith, same-out (v (negsuc a) ⊗ n c) (v (negsuc b) ⊗ n d) e)))
 
--- ---- for the function that shifts, and so rounds down: half of the divisor is added first, and below zero one less
-abbrev pub lower : ℤ → ℤ
-lower (pos a) = pos 0
-lower (negsuc a) = negsuc 0
-
-pub lower-most : (m : ℤ) → natAbs (lower m) ≤ 1
-lower-most (pos a) = omega arith
-lower-most (negsuc a) = omega arith
-
--- a shift of every digit but the sign's
-pub lower-is : (m : ℤ) (k : ℕ) → natAbs m < k → shrZ m k ≡ lower m
-lower-is (pos a) k h = ap pos (div-eq-of-lt h)
-lower-is (negsuc a) k h = let e : a < k = omega arith in ap negsuc (div-eq-of-lt e)
-
-pub shifted-is : (m : ℤ) (h d : ℕ) → 0 < d → 2 * h ≡ d → shrZ (m +ℤ lower m +ℤ pos h) d ≡ rounded m d
-shifted-is (pos a) h d f e = sym (at (shrZ z d) (floor-of z d f))
-  where
-    z : ℤ
-    z = pos a +ℤ pos 0 +ℤ pos h
-
-    at : (q : ℤ) → FloorOf z d q → rounded (pos a) d ≡ q
-    at (pos k) g = natural a d k f (omega (arith, g .low, (n a ⊕ n 0 ⊕ n h) .is)) (omega (arith, g .high, (n a ⊕ n 0 ⊕ n h) .is))
-    at (negsuc k) g = absurd (omega (arith, g .high, (n a ⊕ n 0 ⊕ n h) .is))
-shifted-is (negsuc a) h d f e = sym (at (shrZ z d) (floor-of z d f))
-  where
-    z : ℤ
-    z = negsuc a +ℤ negsuc 0 +ℤ pos h
-
-    at : (q : ℤ) → FloorOf z d q → rounded (negsuc a) d ≡ q
-    at (pos zero) g = from-odd a d (pos 0) (natural (suc a) d 0 f (omega arith) (omega (arith, g .low, g .high, (v (negsuc a) ⊕ v (negsuc 0) ⊕ n h) .is)))
-    at (pos (suc k)) g = absurd (omega (arith, g .low, (v (negsuc a) ⊕ v (negsuc 0) ⊕ n h) .is))
-    at (negsuc k) g = from-odd a d (negsuc k) (natural (suc a) d (suc k) f (omega (arith, g .high, (v (negsuc a) ⊕ v (negsuc 0) ⊕ n h) .is)) (omega (arith, g .low, (v (negsuc a) ⊕ v (negsuc 0) ⊕ n h) .is)))
+-- ---- for the function that rounds a size, and puts the sign back
+pub rounded-sign : (t : Bool) (a d : ℕ) → rounded (withSign t (pos a)) d ≡ withSign t (pos (halfUp a d))
+unfolding rounded
+rounded-sign true a d = rounded-odd (pos a) d
+rounded-sign false a d = refl
 
 -- ---- for the function that divides 2·m by 2·d, and so rounds towards zero: d is added first, away from zero
 twice : (k : ℕ) → suc (suc (k + k)) ≡ suc k + suc k

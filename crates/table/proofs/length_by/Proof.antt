@@ -8,14 +8,16 @@ use Rattle.table.proofs.length_by.Tie as tie
 all : (c : tie.Start) → lengthBy (c .args .row) (c .args .p) (c .args .q) ≤ 120
 all c = short (c .args .row) (c .args .p) (c .args .q) (c .pre .0) (c .pre .1 .0) (c .pre .1 .1)
 
-mul-result : tie.Need-mul-result
-mul-result c = rw (c .before .pieces-by .ensures .0) (omega (arith, all (c .before .before)))
-
-add-result : tie.Need-add-result
-add-result c = rw (c .before .before .pieces-by .ensures .0) (omega (arith, all (c .before .before .before)))
-
 returns : tie.Need-returns
-returns c = rw (c .before .before .pieces-by .ensures .0) (refl, all (c .before .before .before))
+returns c = rw (c .before .times .ensures, c .before .before .pieces-by .ensures .0) (refl, all (c .before .before .before))
 
 pub length-by-spec : {M : Type 1} → statement M
-length-by-spec = tie.close (tie.spec (λ c κs. search needs) mul-result add-result returns)
+length-by-spec =
+    tie.close
+    (tie.spec
+    (λ c κs. search needs)
+    (λ c. search needs)
+    (λ c κs. search needs)
+    (λ c. search needs)
+    (λ c. search needs)
+    returns)

@@ -1,38 +1,50 @@
--- `word::product` meets its contract: a and b are read back from their bits, `times` multiplies them and `rounded_shift` divides.
-use Rattle.whole.proofs.Basics.{_≡_, _∙_, ap, ap₂, _^_, arith, ℤ, natAbs, _*ℤ_, w32, w64}
+-- `word::product` meets its contract: the sizes' product, with the sign that `sign-times` gives it, is a·b.
+use Rattle.whole.proofs.Basics.{_≡_, _∙_, ap, ap₂, Bool, not, ℕ, _*_, _^_, arith, ℤ, pos, natAbs, ltZ, w32, w64, needs}
+use mathlib.Core.Bool.{Bool·beq}
 use native.Mathlib.Nat.{mul-le-mul}
-use Rattle.whole.proofs.Held.{back, Held, fits-code, held, held-nat, arg, given, wider}
-use Rattle.whole.proofs.Order.{abs-mul}
+use Rattle.whole.proofs.Held.{back, held, arg, given}
 use Rattle.word.specs.Rounded.{rounded}
+use Rattle.word.specs.Words.{withSign}
+use Rattle.word.proofs.SignLaws.{below-read, differ, sign-times}
 use Rattle.word.proofs.product.Statement.{statement}
 use Rattle.word.proofs.product.Tie as tie
 
-module _ (c : tie.Start) where
-  held-a : Held w64 (back w32 (c .args .a)) (c .args .a)
-  held-a = wider tt (arg (c .fits .a))
+module _ (c : tie.After-long-times) where
+  abbrev start : tie.Start
+  start = c .before .before .before
 
-  held-b : Held w64 (back w32 (c .args .b)) (c .args .b)
-  held-b = wider tt (arg (c .fits .b))
+  abbrev a : ℤ
+  a = start .args .a
 
-n-is : (c : tie.After-times) → back w64 (c .times .result) ≡ c .before .args .a *ℤ c .before .args .b
-n-is c =
-    held (given {w = w64} {x = c .times .result} (c .times .ok))
-    ∙ c .times .ensures
-    ∙ ap₂ _*ℤ_ (held (held-a (c .before))) (held (held-b (c .before)))
+  abbrev b : ℤ
+  b = start .args .b
 
-times-requires : tie.Need-times-requires
-times-requires c κs = (omega (arith, held-nat (held-a c), c .pre .1), omega (arith, held-nat (held-b c), c .pre .2))
+  n-is : c .long-times .result ≡ natAbs a * natAbs b
+  n-is =
+      c .long-times .ensures
+      ∙ ap₂ _*_ (c .before .before .magnitude .ensures ∙ ap natAbs (held (arg {w = w32} (start .fits .a)))) (c .before .magnitude2 .ensures ∙ ap natAbs (held (arg {w = w32} (start .fits .b))))
 
-rounded-shift-requires : tie.Need-rounded-shift-requires
-rounded-shift-requires c κs =
-    let d = c .before in
-    (omega (arith, ap natAbs (n-is c), abs-mul (d .args .a) (d .args .b), mul-le-mul (d .pre .1) (d .pre .2)), omega (arith, d .pre .0 .least), omega (arith, d .pre .0 .most))
+  sign-is : not (Bool·beq (ltZ (back w32 a) (pos 0)) (ltZ (back w32 b) (pos 0))) ≡ differ a b
+  sign-is = ap₂ (λ (x y : Bool). not (Bool·beq x y)) (below-read (start .fits .a)) (below-read (start .fits .b))
+
+rounded-size-requires : tie.Need-rounded-size-requires
+rounded-size-requires c κs =
+    let d = start c in
+    (omega (arith, n-is c, mul-le-mul (d .pre .1) (d .pre .2)), omega (arith, d .pre .0 .least), omega (arith, d .pre .0 .most))
 
 returns : tie.Need-returns
 returns c =
-    held (given {w = w64} {x = c .rounded-shift .result} (c .rounded-shift .ok))
-    ∙ c .rounded-shift .ensures
-    ∙ ap (λ (z : ℤ). rounded z (2 ^ c .before .before .args .s)) (n-is (c .before))
+    let d = c .before in
+    held (given {w = w64} {x = c .rounded-size .result} (c .rounded-size .ok))
+    ∙ c .rounded-size .ensures
+    ∙ ap (λ (z : ℤ). rounded z (2 ^ start d .args .s)) (ap₂ (λ (t : Bool) (k : ℕ). withSign t (pos k)) (sign-is d) (n-is d) ∙ sign-times (a d) (b d))
 
 pub product-spec : {M : Type 1} → statement M
-product-spec = tie.close (tie.spec (λ c. fits-code (held-a c)) (λ c. fits-code (held-b c)) times-requires rounded-shift-requires returns)
+product-spec =
+    tie.close
+    (tie.spec
+    (λ c κs. search needs)
+    (λ c κs. search needs)
+    (λ c κs. search needs)
+    rounded-size-requires
+    returns)

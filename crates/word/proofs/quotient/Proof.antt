@@ -1,6 +1,6 @@
 -- `word::quotient` meets its contract: twice the scaled dividend, with the divisor added away from zero, is what `divided-is` speaks of, and nothing
 -- wraps.
-use Rattle.whole.proofs.Basics.{_≡_, _∙_, ap, ap₂, not, ℕ, _*_, _%_, _^_, _<_, arith, ℤ, pos, natAbs, _+ℤ_, _*ℤ_, w32, w64, toZ, ofZ, ltZ, needs}
+use Rattle.whole.proofs.Basics.{_≡_, _∙_, ap₂, not, ℕ, _*_, _%_, _^_, _<_, arith, ℤ, pos, natAbs, _+ℤ_, _*ℤ_, w32, w64, toZ, ofZ, ltZ, needs}
 use mathlib.Core.Bool.{Bool, Bool·beq}
 use lib.Pow.{pow-pos}
 use lib.Signed.{quotZ}
@@ -8,9 +8,9 @@ use Rattle.whole.proofs.Diff.{v, _⊕_, size}
 use Rattle.whole.proofs.Fit.{fit-abs}
 use Rattle.whole.proofs.Held.{back, Held, fits-code, held, held-nat, arg, known, wider, shl, plus, quot, divisor, quot-fits}
 use Rattle.whole.proofs.Order.{abs-add, abs-mul}
-use Rattle.word.specs.Words.{belowZero, withSign}
+use Rattle.word.specs.Words.{withSign}
 use Rattle.word.proofs.RoundedLaws.{divided-is}
-use Rattle.word.proofs.SignLaws.{below-is, below-scaled, sign-abs}
+use Rattle.word.proofs.SignLaws.{below-read, below-scaled, sign-abs, differ}
 use Rattle.word.proofs.WordLaws.{scaled-most}
 use Rattle.word.proofs.quotient.Statement.{statement}
 use Rattle.word.proofs.quotient.Tie as tie
@@ -31,7 +31,7 @@ module _ (c : tie.Start) where
 
   -- whether the signs differ, and the divisor with the dividend's sign
   abbrev sign : Bool
-  sign = not (Bool·beq (belowZero m) (belowZero d))
+  sign = differ m d
 
   abbrev half : ℤ
   half = withSign sign d
@@ -70,14 +70,11 @@ module _ (c : tie.After-with-sign) where
   abbrev start : tie.Start
   start = c .before
 
-  negative : (x : ℤ) → back w32 x ≡ x → ltZ (back w32 x) (pos 0) ≡ belowZero x
-  negative x e = ap (λ (z : ℤ). ltZ z (pos 0)) e ∙ below-is x
-
   sign-is : not (Bool·beq (ltZ (back w32 (a start)) (pos 0)) (ltZ (back w32 (d start)) (pos 0))) ≡ sign start
   sign-is =
       ap₂ (λ (x y : Bool). not (Bool·beq x y))
-      (negative (a start) (held (arg (start .fits .a))) ∙ below-scaled (a start) (u start) (pow-pos (start .args .s)))
-      (negative (d start) (held (arg (start .fits .d))))
+      (below-read (start .fits .a) ∙ below-scaled (a start) (u start) (pow-pos (start .args .s)))
+      (below-read (start .fits .d))
 
   held-half : Held w64 (c .with-sign .result) (half start)
   held-half = known (c .with-sign .ensures ∙ ap₂ withSign sign-is (held (held-d start))) (fit-abs (omega (arith, half-most start)))
