@@ -36,6 +36,7 @@ static formula formulas[KINDS] = {
     [FRACTION] = {"fraction", VP_FRACTION, 54}, [ROOT] = {"root", VP_ROOT, 161},
     [ODD] = {"odd", VP_ODD, 14}, [EVEN] = {"even", VP_EVEN, 33},
 };
+static formula longest = {"polynomial of 16", VP_POLYNOMIAL, 133};         /* the most coefficients; the other polynomial has 8 */
 static formula padded = {"polynomial, odd padded", VP_POLYNOMIAL, 14};     /* the odd one, with a nought before each coefficient */
 static uint32_t angles[SLICE];             /* of all four quarters */
 static uint8_t out[ROOM], kept[ROOM];      /* what a call writes to; what it was after plain C's */
@@ -133,6 +134,8 @@ static void rows(int timing) {
     ROW("reading 64 formulas", counted, count, WHOLE);
     ROW("writing 64 formulas", written, write_sheet, RUN, out, ROOM);
     for (f = formulas; f < end; f++) ROW(joined(f->name, ", sheet of 1"), worked, evaluate, ALONE(f), f->arguments[i]);
+    f = &longest;
+    ROW(f->name, worked, evaluate, ALONE(f), f->arguments[i]);
     f = &padded;
     ROW(f->name, worked, evaluate, ALONE(f), f->arguments[i]);
     for (f = formulas; f < end; f++) ROW(joined(f->name, ", sheet of 64"), worked, evaluate, WHOLE, f->number, f->arguments[i]);
@@ -266,6 +269,7 @@ int main(int count, char **words) {
     whole.length = fread(whole.bytes, 1, ROOM, file);
     fclose(file);
     for (int k = 0; k < KINDS; k++) look_up(&formulas[k]), prepare(&formulas[k]);
+    look_up(&longest), prepare(&longest);
     pad(&formulas[ODD].fields);
     prepare(&padded);
     refusals();

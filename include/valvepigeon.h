@@ -37,8 +37,8 @@ extern "C" {
    would write beyond the struct of such a program. So the shared library is libvalvepigeon.so.2 now, which the loader never gives
    to a program that was linked with libvalvepigeon.so.1; an archive has no such name, and what is linked with it has to be compiled
    with this header. */
-#define VP_VERSION 20000
-#define VP_VERSION_STRING "2.0.0"
+#define VP_VERSION 20001
+#define VP_VERSION_STRING "2.0.1"
 
 /* Sizes: the most bytes of a record, the bytes that a sheet adds to its run of records, and the most formulas of a sheet. */
 #define VP_LONGEST_RECORD 120

@@ -1,7 +1,8 @@
 """The paper's own cases (01, 'Checked by hand'), P or not, with the tie cases
 as request M-101 has them, and the listing's; then cases of odd and even
-formulas (request M-100), of ties (M-101), of sines and cosines (M-102) and of
-the steps that roots take (M-103), worked out by hand.
+formulas (request M-100), of ties (M-101), of sines and cosines (M-102), of the
+steps that roots take (M-103) and of products from halves (M-104), worked out
+by hand.
 
 A case is a formula, an argument or an angle where an answer is asked, and what
 is given: an answer word, a refusal number at the record, or accepted (0). A
@@ -494,4 +495,100 @@ ROOTS = (
     # 41943040 (26843547), 34393293 (32736032), 33564662 (33544207),
     # 33554434 (33554432), 33554433 (33554432), 33554432 (33554434), 33554433.
     (67108868, 33554432, 7),
+)
+
+# Products from halves. In the comments numbers are written by their digits of
+# base 65536, the highest first, and 1,65535 is 131071. Of a1,a0 times b1,b0
+# the long multiplication has the lower halves' product a0*b0, the two middle
+# products a1*b0 and a0*b1, and the upper halves' product a1*b1. Then come the
+# four columns, the lowest first, each with what is carried to it, and the
+# digits. Digits d3,d2,d1,d0 are d3 * 2^24 + d2 * 256 + d1 / 256 steps, and a
+# little more if d0 is not 0.
+
+
+def times(c, x):
+    """The product of c and the argument, on -x to x."""
+    return polynomial((0, c), -x, x)
+
+
+HALVES = (
+    # 1,65535 times 1,65535. 65535*65535 = 65534,1; 1*65535 = 65535, twice;
+    # 1*1 = 1. Columns: 1; 65534 + 65535 + 65535 = 196604 = 2,65532, so both
+    # additions carry; 1 + 2 = 3; 0. Digits 0,3,65532,1: 768 + 255.98.
+    (times(131071, 131071), 131071, 1024),
+    (times(131071, 131071), -131071, -1024),
+    (times(-131071, 131071), 131071, -1024),
+    (times(-131071, 131071), -131071, 1024),
+    (even((0, ONE)), 131071, 1024),
+    (even((0, ONE)), -131071, 1024),
+    # 32767,0 times 0,32769, one middle product alone, then the other:
+    # 32767*32769 = 2^30 - 1 = 16383,65535. Digits 0,16383,65535,0:
+    # 16383 * 256 + 255.996, which is rounded to 16384 * 256.
+    (times(2147418112, 32769), 32769, 4194304),
+    (times(2147418112, 32769), -32769, -4194304),
+    (times(32769, 2147418112), 2147418112, 4194304),
+    (times(32769, 2147418112), -2147418112, -4194304),
+    # The largest word, 32767,65535, times 0,65535. 65535*65535 = 65534,1;
+    # 32767*65535 = 32766,32769. Columns: 1; 65534 + 32769 = 98303 = 1,32767;
+    # 32766 + 1 = 32767; 0. Digits 0,32767,32767,1: 8388352 + 127.996.
+    (times(2147483647, 65535), 65535, 8388480),
+    (times(65535, 2147483647), -2147483647, -8388480),
+    # 255,65535 times 257,65535. 65535*65535 = 65534,1; 255*65535 = 254,65281;
+    # 65535*257 = 256,65279; 255*257 = 65535. Columns: 1;
+    # 65534 + 65281 + 65279 = 196094 = 2,65022;
+    # 254 + 256 + 65535 + 2 = 66047 = 1,511; 1. Digits 1,511,65022,1:
+    # 16777216 + 130816 + 253.99.
+    (times(16777215, 16908287), 16908287, 16908286),
+    (times(16777215, 16908287), -16908287, -16908286),
+    # A tie: 2,4096 times 1,6144. 4096*6144 = 384,0; 2*6144 = 12288;
+    # 4096*1 = 4096; 2*1 = 2. Columns: 0; 384 + 12288 + 4096 = 16768; 2; 0.
+    # Digits 0,2,16768,0: 512 + 65.5.
+    (times(135168, 71680), 71680, 578),
+    (times(135168, 71680), -71680, -578),
+    (times(-135168, 71680), 71680, -578),
+    (times(-135168, 71680), -71680, 578),
+    # As near below a tie as can be: 0,47 times 2,47409, which is 2^23 - 1.
+    # 47*47409 = 33,65535; 47*2 = 94. Columns: 65535; 33 + 94 = 127; 0; 0.
+    # Digits 0,0,127,65535: less than 128/256.
+    (times(47, 178481), 178481, 0),
+    (times(47, 178481), -178481, 0),
+    # As near above it: 0,3 times 42,43691. 3*43691 = 2,1; 3*42 = 126.
+    # Columns: 1; 2 + 126 = 128; 0; 0. Digits 0,0,128,1: more than 128/256.
+    (times(3, 2796203), 2796203, 1),
+    (times(3, 2796203), -2796203, -1),
+    # The answer is the largest word: 256,1 times 32767,65407. 1*65407 = 65407;
+    # 256*65407 = 255,32512; 1*32767 = 32767; 256*32767 = 127,65280. Columns:
+    # 65407; 32512 + 32767 = 65279; 255 + 65280 = 65535; 127. Digits
+    # 127,65535,65279,65407: 2130706432 + 16776960 + 254.996, and a little.
+    (times(16777217, 2147483519), 2147483519, 2147483647),
+    (times(16777217, 2147483519), -2147483519, -2147483647),
+)
+
+HALVES_ADMISSIONS = (
+    # 0,97 times 2,41889, which is 2^24 + 1. 97*41889 = 62,1; 97*2 = 194.
+    # Columns: 1; 62 + 194 = 256; 0; 0. Digits 0,0,256,1: more than a step, by
+    # the lowest digit alone, so the bound is 2 steps. B_0 is M, then M + 1; L
+    # is 1, then 0.
+    (polynomial((2147483645, 97), 0, 172961), 0),
+    (polynomial((2147483646, 97), 0, 172961), 7),
+    (rational((1,), (3, 97), -172961, 0), 0),
+    (rational((1,), (2, 97), -172961, 0), 8),
+    # 0,4096 times 0,4096 is 2^24 = 256,0, a step exactly.
+    (polynomial((2147483646, 4096), 0, 4096), 0),
+    (polynomial((2147483647, 4096), 0, 4096), 7),
+    (rational((1,), (2, 4096), 0, 4096), 0),
+    (rational((1,), (1, 4096), 0, 4096), 8),
+    # 1,65535 times 1,65535, as above: 1024 when rounded up, too.
+    (polynomial((2147482623, 131071), 0, 131071), 0),
+    (polynomial((2147482624, 131071), 0, 131071), 7),
+    (even((2147482623, ONE), 0, 131071), 0),
+    (even((2147482624, ONE), 0, 131071), 7),
+    # 256,1 times 32767,65407, as above: M when rounded up, too.
+    (polynomial((0, 16777217), 0, 2147483519), 0),
+    (polynomial((1, 16777217), 0, 2147483519), 7),
+    # 256,1 times 32767,65408. 1*65408 = 65408; 256*65408 = 255,32768; 32767;
+    # 127,65280. Columns: 65408; 32768 + 32767 = 65535; 255 + 65280 = 65535;
+    # 127. Digits 127,65535,65535,65408: rounded up, all of them carry, and it
+    # is 128,0,0,0, so M + 1.
+    (polynomial((0, 16777217), 0, 2147483520), 7),
 )

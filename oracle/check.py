@@ -11,19 +11,20 @@ from random import Random
 
 import slow
 from by_hand import (
-    ADMISSIONS, ANSWERS, ANY_ROOT, COSINES, FIT, LISTED,
-    ODD_AND_EVEN_ADMISSIONS, ODD_AND_EVEN_ANSWERS, REFUSED, ROOTS, SERIES,
-    SINES, TIES, UNFIT)
+    ADMISSIONS, ANSWERS, ANY_ROOT, COSINES, FIT, HALVES, HALVES_ADMISSIONS,
+    LISTED, ODD_AND_EVEN_ADMISSIONS, ODD_AND_EVEN_ANSWERS, REFUSED, ROOTS,
+    SERIES, SINES, TIES, UNFIT)
 from door import evaluate_double, interval, pattern_of, word_of
 from evaluation import evaluate
 from formulas import (
     EVEN, FRACTION, ODD, POLYNOMIAL, POLYNOMIALS, RATIONAL, ROOT, Formula,
     admission, answer)
 from makers import (
-    EDGE_ANGLES, EVEN_FORMS, FIRST_AND_LAST, KINDS, ODD_FORMS, OTHER_FORMS,
-    SEVEN_STEPS, SQUARES_LESS_ONE, angle_in, arguments, change_of_steps,
-    formula_of_form, full_polynomial, full_quarter_formula, good_formula,
-    good_formulas, largest, quarter_formula, sheet_of, signed, size, steps_to,
+    EDGE_ANGLES, EVEN_FORMS, EVERY_CARRY, FIRST_AND_LAST, KINDS, ODD_FORMS,
+    OTHER_FORMS, SEAMS, SEVEN_STEPS, SQUARES_LESS_ONE, angle_in, arguments,
+    carries, change_of_steps, formula_of_form, full_polynomial,
+    full_quarter_formula, good_formula, good_formulas, halves_that_carry,
+    largest, leaving, quarter_formula, sheet_of, signed, size, steps_to,
     tied_angle_in, tied_divisor, tied_formula, tied_quarter_formula,
     with_field, word, word_of_digits)
 from number import (
@@ -35,6 +36,8 @@ from questions import (
     ask_sine, buffer_beforehand, unpacked_fields)
 from refusal import Refused
 from sheet import END, START, formula_count, formula_of, read, read_run
+from slips import (
+    SLIPS, Way, changed, is_in_bounds, is_in_products, vectors_of_halves)
 from turn import HALF_TURN, QUARTER, cosine, sine, wrapped
 from vectors import taken_apart
 from writing import record_of, start_or_end, write_record, write_sheet
@@ -72,15 +75,16 @@ def refused(number, place=0):
 
 def check_by_hand(tally, rng):
     """Every row of 'Checked by hand', P or not, the listing's sheets, and the
-    cases of odd and even formulas and of ties."""
+    cases of odd and even formulas, of ties and of products from halves."""
     for formula, argument, expected in (*ANSWERS, *ODD_AND_EVEN_ANSWERS,
-                                        *TIES):
+                                        *TIES, *HALVES):
         sheet = sheet_of([formula])
         tally.same("by hand", evaluate(sheet, 1, argument).word, expected)
         tally.same("by hand, in doubles",
                    evaluate_double(sheet, 1, pattern_of(argument)).pattern,
                    pattern_of(expected))
-    for formula, expected in (*ADMISSIONS, *ODD_AND_EVEN_ADMISSIONS):
+    for formula, expected in (*ADMISSIONS, *ODD_AND_EVEN_ADMISSIONS,
+                              *HALVES_ADMISSIONS):
         tally.same("by hand, admission",
                    outcome(formula_count, sheet_of([formula])),
                    refused(expected, 8) if expected else 1)
@@ -152,6 +156,57 @@ def check_bounds(tally, rng):
                    slow.bound_product(a, b))
         tally.same(f"bound quotient {a} {d}", bound_quotient(a, d),
                    slow.bound_quotient(a, d))
+
+
+def sizes_to_multiply(rng):
+    """Two sizes at the seams of their halves, with every carry, with a product
+    about a step or about a tie, and any two."""
+    yield from ((a, b) for a in SEAMS for b in SEAMS)
+    for wanted in EVERY_CARRY * 20:
+        yield halves_that_carry(rng, wanted)
+    for _ in range(300):
+        yield leaving(rng, rng.choice((0, 1, ONE // 2, ONE - 1))
+                      + rng.randrange(-1, 2) & ONE - 1)
+        yield leaving(rng, -rng.randrange(1 << 24) & (1 << 32) - 1, 32)
+        yield abs(word(rng)), abs(word(rng))
+        yield rng.randrange(M + 1), rng.randrange(M + 1)
+
+
+def check_halves(tally, rng):
+    """Products and bound products from halves are the plain ones, whatever
+    the signs; every carry is met, and none above 1."""
+    met = set()
+    for a, b in sizes_to_multiply(rng):
+        what = f"from halves, {a} and {b}"
+        met.add(carries(a, b))
+        tally.same(what, slow.bound_product_from_halves(a, b),
+                   bound_product(a, b))
+        tally.same(what, slow.product_from_halves(a, b), slow.product(a, b))
+        for c, x in ((a, b), (a, -b), (-a, b), (-a, -b)):
+            tally.same(what, slow.product_from_halves(c, x), product(c, x))
+    tally.same("every carry", met, {*EVERY_CARRY})
+
+
+def check_slips(tally, rng):
+    """Formulas worked by products from halves have the same answers and the
+    same admission. With a slip in the product, or in the bound product alone,
+    an answer of those vectors is another one."""
+    vectors = vectors_of_halves()
+    for other, other_bound in (
+            (slow.product_from_halves, slow.bound_product_from_halves),
+            (Way().product, Way().bound_product)):
+        tally.same("answers from halves",
+                   changed(vectors, other, other_bound), 0)
+    backwards = vectors[::-1]  # those for bound products come last
+    for slip, replaced in SLIPS.items():
+        way = Way(**replaced)
+        if is_in_products(slip):
+            tally.same(f"{slip}, in products",
+                       changed(vectors, other=way.product, count=any), True)
+        if is_in_bounds(slip):
+            tally.same(f"{slip}, in bound products",
+                       changed(backwards, other_bound=way.bound_product,
+                               count=any), True)
 
 
 def check_roots_by_hand(tally, rng):
@@ -773,9 +828,10 @@ def check_vectors(tally, rng):
             sorted(numbers))
 
 
-CHECKS = (check_by_hand, check_rounding, check_bounds, check_roots_by_hand,
-          check_roots, check_steps, check_most_steps, check_formulas,
-          check_polynomials, check_opposite_arguments, check_turns_by_hand,
+CHECKS = (check_by_hand, check_rounding, check_bounds, check_halves,
+          check_slips, check_roots_by_hand, check_roots, check_steps,
+          check_most_steps, check_formulas, check_polynomials,
+          check_opposite_arguments, check_turns_by_hand,
           check_turns, check_mirrored_angles, check_a_sine, check_doubles,
           check_order, check_questions, check_steps_as_bytes,
           check_order_of_15, check_ends, check_round_trips,

@@ -1,5 +1,6 @@
 """Makers of words, formulas, angles and sheets for the vectors, from a
-random.Random; arguments of roots, drawn or found.
+random.Random; arguments of roots, drawn or found; factors at the seams of
+their halves.
 
 Only whole-number draws are used (getrandbits, randrange, choice).
 """
@@ -352,6 +353,64 @@ def below_square(n, twos, c):
 # swing between two numbers.
 SQUARES_LESS_ONE = tuple(
     below_square(n, 0, c) for n in range(1, 23) for c in (-1, 1))
+
+
+# Numbers at the seams of their halves, and the carries between halves (request
+# M-104).
+
+EVERY_CARRY = tuple((first, second, last) for first in (0, 1)
+                    for second in (0, 1) for last in (0, 1))
+SEAMS = (0, 1, 0x7FFF, 0x8000, 0x8001, 0xFFFE, 0xFFFF, 0x10000, 0x10001,
+         0x18000, 0x1FFFF, 0x20000, ONE - 1, ONE, ONE + 1, 0x7FFEFFFF,
+         0x7FFF0000, 0x7FFF8001, M - 1, M)
+
+
+def most_beside(c):
+    """The largest word whose bound product with c, not below 0, is a word."""
+    return min(M * ONE // c, M) if c > 0 else M
+
+
+def lower_half(rng):
+    """An edge of the halves, or any half."""
+    return rng.choice((0, 1, 0x7FFF, 0x8000, 0xFFFF, rng.getrandbits(16)))
+
+
+def halves_together(rng):
+    """Two sizes above 0 with both halves, whose bound product is a word."""
+    digits = 1 + rng.randrange(15)
+    others = 1 + rng.randrange(min(23 - digits, 15))
+    a = word_of_digits(rng, digits) << 16 | lower_half(rng)
+    b = word_of_digits(rng, others) << 16 | lower_half(rng)
+    return a, min(b, most_beside(a))
+
+
+def carries(a, b):
+    """What is carried in a long multiplication of sizes by halves: when the
+    first middle product and when the second is added to the lower halves'
+    product, and into the highest half. Each is 0 or 1."""
+    a0, a1, b0, b1 = a & 0xFFFF, a >> 16, b & 0xFFFF, b >> 16
+    first = (a1 * b0 & 0xFFFF) + (a0 * b0 >> 16)
+    second = (a0 * b1 & 0xFFFF) + (first & 0xFFFF)
+    return first >> 16, second >> 16, (a * b >> 48) - (a1 * b1 >> 16)
+
+
+def halves_that_carry(rng, wanted):
+    """Two sizes as above whose carries are the wanted ones."""
+    while True:
+        a, b = halves_together(rng)
+        if carries(a, b) == wanted:
+            return a, b
+
+
+def leaving(rng, rest, bits=24):
+    """Two sizes, one of them odd, whose product has `rest` as its lowest bits,
+    and whose bound product is a word."""
+    while True:
+        x = size(rng, ONE) | 1
+        c = rest * pow(x, -1, 1 << bits) % (1 << bits)
+        c += size(rng, max(most_beside(x) - c, 0) >> bits) << bits
+        if c <= most_beside(x):
+            return rng.choice(((c, x), (x, c)))
 
 
 def good_formulas(rng, count):

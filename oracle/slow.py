@@ -53,6 +53,71 @@ def bound_quotient(a, d):
     return upward(Fraction(a * STEPS, d))
 
 
+# The product from halves (request M-104). A half is a digit of base 65536, and
+# numbers are worked as on paper, their digits from the lowest on.
+
+HALF = 2**16
+
+
+def small_product(a, b):
+    """'Multiplies 16 by 16 bits only.'"""
+    assert 0 <= a < HALF and 0 <= b < HALF
+    return a * b
+
+
+def lower_half(n):
+    return n & HALF - 1
+
+
+def upper_half(n):
+    return n >> 16
+
+
+def carried(columns):
+    """A digit for each column, and what is above it carried to the next; no
+    column has more than 32 bits, and nothing is carried out of the last."""
+    digits = []
+    carry = 0
+    for column in columns:
+        n = column + carry
+        assert 0 <= n < 2**32
+        digits.append(lower_half(n))
+        carry = upper_half(n)
+    assert carry == 0
+    return digits
+
+
+def long_product(a, b):
+    """The four digits of the product of two sizes of at most 32 bits."""
+    a0, a1, b0, b1 = lower_half(a), upper_half(a), lower_half(b), upper_half(b)
+    low, high = small_product(a0, b0), small_product(a1, b1)
+    first, second = small_product(a1, b0), small_product(a0, b1)
+    return carried((
+        lower_half(low),
+        upper_half(low) + lower_half(first) + lower_half(second),
+        upper_half(first) + upper_half(second) + lower_half(high),
+        upper_half(high)))
+
+
+def in_steps(digits, *added):
+    """The digits, with others added to the lowest of them, as whole steps: the
+    24 bits below a step are cut off."""
+    more = *added, *[0] * (4 - len(added))
+    _, d1, d2, d3 = carried(map(sum, zip(digits, more)))
+    return d3 << 24 | d2 << 8 | d1 >> 8
+
+
+def product_from_halves(a, b):
+    """Of the sizes, with half a step (2^23) added; the sign comes last."""
+    size = in_steps(long_product(abs(a), abs(b)), 0, 2**7)
+    return -size if (a < 0) != (b < 0) else size
+
+
+def bound_product_from_halves(a, b):
+    """With a step less one part (2^24 - 1) added."""
+    return in_steps(long_product(a, b), 2**16 - 1, 2**8 - 1)
+
+
 def root(x):
     """'The largest whole r with r² not above x·2^24.'"""
     return isqrt(x * STEPS)

@@ -10,6 +10,7 @@ from pathlib import Path
 from random import Random
 from struct import pack, unpack_from
 
+import groups_halves
 import groups_numbers
 import groups_roots
 import groups_sheets
@@ -20,7 +21,8 @@ from questions import answer_to
 SEED = 1967
 
 GROUPS = (*groups_sheets.GROUPS, *groups_numbers.GROUPS,
-          *groups_writers.GROUPS, *groups_turns.GROUPS, *groups_roots.GROUPS)
+          *groups_writers.GROUPS, *groups_turns.GROUPS, *groups_roots.GROUPS,
+          *groups_halves.GROUPS)
 
 
 def vector(question, content):

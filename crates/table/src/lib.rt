@@ -7,6 +7,7 @@ ghost use Rattle.table.specs.Codes.{codeFor};
 ghost use Rattle.table.specs.Lines.{line, fieldFrom};
 ghost use Rattle.table.specs.Rule.{Ruled};
 use formula::Kind;
+use word::multiply::times;
 
 // What a record does in a sheet.
 pub enum Class {
@@ -212,7 +213,7 @@ pub fn pieces_by(row: Row, p: u16, q: u16) -> usize
     ensures exact { λ r. ⌜ r ≡ piecesBy row p q ⌝ }
     ensures few { λ r. ⌜ r ≤ 32 ⌝ }
 {
-    row.base + (word::times(row.p.each, p) as usize) + (word::times(row.q.each, q) as usize)
+    row.base + (times(row.p.each, p) as usize) + (times(row.q.each, q) as usize)
 }
 
 pub fn length_by(row: Row, p: u16, q: u16) -> usize
@@ -222,5 +223,5 @@ pub fn length_by(row: Row, p: u16, q: u16) -> usize
     ensures exact { λ r. ⌜ r ≡ lengthBy row p q ⌝ }
     ensures short { λ r. ⌜ r ≤ 120 ⌝ }
 {
-    row.head + (word::times(row.width, pieces_by(row, p, q) as u16) as usize)
+    row.head + (times(row.width, pieces_by(row, p, q) as u16) as usize)
 }

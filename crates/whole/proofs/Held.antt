@@ -4,13 +4,13 @@
 use Rattle.whole.proofs.Basics.{_≡_, _∙_, refl, sym, ap, ap₂, subst, Bool, true, false, not, ℕ, suc, zero, _+_, _-_, _*_, _%_, _^_, _≤_, _<_, arith, T, ltb, leb, ℤ, pos, negsuc, natAbs, negℤ, _+ℤ_, _-ℤ_, _*ℤ_, _≤ℤ_, _<ℤ_, ltZ, SFits, toZ, ofZ, toZ-ofZ}
 use native.Mathlib.Nat.{add-mul-mod-self-left, mod-eq-of-lt}
 use lib.IntN.{+ℤ-idl}
-use lib.Signed.{nonNeg, yes-nonNeg, ltZ-no, mag, shrZ, quotZ, mag-shr}
+use lib.Signed.{nonNeg, yes-nonNeg, ltZ-no, mag, quotZ}
 use mir.Syntax.{Width}
 use mir.Val.{Fits, bits, hbits}
 use mir.Facts.{sfits-lit, sfits-widen}
-use mir.ValLaws.{sfits-le, pow-bits}
+use mir.ValLaws.{pow-bits}
 use Rattle.whole.proofs.Fit.{fit-abs}
-use Rattle.whole.proofs.Floor.{quot-abs}
+use Rattle.whole.proofs.Order.{quot-abs}
 
 -- x, stored and read back
 abbrev pub back : Width → ℤ → ℤ
@@ -54,12 +54,6 @@ wider t h = cast h (sfits-widen t (h .fits))
 
 pub plus : {w : Width} {x y x′ y′ : ℤ} → Held w x y → Held w x′ y′ → SFits w (y +ℤ y′) → Held w (back w x +ℤ back w x′) (y +ℤ y′)
 plus h k f = record { eq = ap₂ _+ℤ_ (held h) (held k); fits = f }
-
-pub times : {w : Width} {x y x′ y′ : ℤ} → Held w x y → Held w x′ y′ → SFits w (y *ℤ y′) → Held w (back w x *ℤ back w x′) (y *ℤ y′)
-times h k f = record { eq = ap₂ _*ℤ_ (held h) (held k); fits = f }
-
-pub shr : {w : Width} {x y : ℤ} (m : ℕ) → Held w x y → Held w (shrZ (back w x) m) (shrZ y m)
-shr {w} {x} {y} m h = record { eq = ap (λ (z : ℤ). shrZ z m) (held h); fits = sfits-le (mag-shr y m) (h .fits) }
 
 pub quot : {w : Width} {x y x′ y′ : ℤ} → Held w x y → Held w x′ y′ → SFits w (quotZ y y′) → Held w (quotZ (back w x) (back w x′)) (quotZ y y′)
 quot h k f = record { eq = ap₂ quotZ (held h) (held k); fits = f }

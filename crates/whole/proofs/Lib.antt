@@ -4,7 +4,6 @@ pub mod Diff
 pub mod Ring
 pub mod Settled
 pub mod Order
-pub mod Floor
 pub mod Fit
 pub mod Held
 pub mod Linear

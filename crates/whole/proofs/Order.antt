@@ -1,5 +1,7 @@
 -- The order of ℤ and sizes.
-use Rattle.whole.proofs.Basics.{_≡_, refl, ℕ, suc, _+_, _*_, _≤_, arith, ℤ, pos, negsuc, natAbs, negℤ, _+ℤ_, _*ℤ_, _≤ℤ_}
+use Rattle.whole.proofs.Basics.{_≡_, refl, ℕ, suc, _+_, _*_, _/_, _≤_, arith, ℤ, pos, negsuc, natAbs, negℤ, _+ℤ_, _*ℤ_, _≤ℤ_}
+use native.Mathlib.Nat.{div-le-self}
+use lib.Signed.{quotZ}
 use Rattle.whole.proofs.Diff.{v, n, _⊕_, ⊖_, same, below, below-out, abs-is, size, near, parts-le-out}
 
 pub ≤ℤ-trans : {a b c : ℤ} → a ≤ℤ b → b ≤ℤ c → a ≤ℤ c
@@ -20,6 +22,13 @@ abs-mul (pos a) (pos b) = refl
 abs-mul (pos a) (negsuc b) = abs-neg (pos (a * suc b))
 abs-mul (negsuc a) (pos b) = abs-neg (pos (suc a * b))
 abs-mul (negsuc a) (negsuc b) = refl
+
+-- a quotient, towards zero, is no larger than the dividend
+pub quot-abs : (z d : ℤ) → natAbs (quotZ z d) ≤ natAbs z
+quot-abs (pos a) (pos b) = div-le-self a b
+quot-abs (pos a) (negsuc b) = omega (arith, abs-neg (pos (a / suc b)), div-le-self a (suc b))
+quot-abs (negsuc a) (pos b) = omega (arith, abs-neg (pos (suc a / b)), div-le-self (suc a) b)
+quot-abs (negsuc a) (negsuc b) = div-le-self (suc a) (suc b)
 
 -- what a sum keeps of a's size
 pub abs-least : (a b : ℤ) → natAbs a ≤ natAbs (a +ℤ b) + natAbs b

@@ -1,5 +1,5 @@
 -- Laws of the operations on words, lowest first; other crates use all but `HalfLaws`.
-pub mod HalvesLaws
+pub mod MultiplyLaws
 pub mod HalfLaws
 pub mod RoundedLaws
 pub mod SignLaws

@@ -4,11 +4,10 @@
 use Rattle.whole.proofs.Basics.{_≡_, _∙_, refl, sym, ap, ap₂, Bool, true, false, not, ℕ, suc, zero, _+_, _-_, _*_, _/_, _≤_, _<_, arith, ℤ, pos, negsuc, negℤ, natAbs, _+ℤ_, _-ℤ_, _*ℤ_}
 use mathlib.Core.Bool.{Bool·beq}
 use native.Mathlib.Decide.{decLe}
-use native.Mathlib.Nat.{div-add-mod, div-eq-of-lt, div-zero, mod-lt, lt-of-mul-lt-mul-left}
+use native.Mathlib.Nat.{div-add-mod, div-zero, mod-lt, lt-of-mul-lt-mul-left}
 use lib.IntN.{negℤ-negℤ}
-use lib.Signed.{shrZ, quotZ}
+use lib.Signed.{quotZ}
 use Rattle.whole.proofs.Diff.{v, n, _⊕_, _⊗_, _⊝_, ⊖_, same, same-out, size}
-use Rattle.whole.proofs.Floor.{FloorOf, floor-of}
 use Rattle.whole.proofs.Order.{abs-neg}
 use Rattle.word.specs.Rounded.{halfUp, rounded, roundedUp}
 use Rattle.word.specs.Words.{belowZero, withSign}

@@ -3,7 +3,7 @@ use mathlib.Core.Path.{_≡_, refl}
 use Prim.Native.Nat.{ℕ, _+_, _*_, _/_, _%_, _^_, _≤_}
 use native.Mathlib.Omega.{arith}
 use lib.Dec.{lit≤}
-use Rattle.word.specs.declared.Halves.{Halves}
+use Rattle.word.specs.declared.multiply.Halves.{Halves}
 
 -- the upper and the lower 16 binary digits
 abbrev pub halvesOf : ℕ → Halves
@@ -14,8 +14,8 @@ abbrev pub OfHalves : ℕ → Type 0
 OfHalves n = n ≤ 65535 * 65535
 
 -- what stands below the product of the upper halves: the two middle products, 16 digits up, and the product of the lower halves
-abbrev pub below : ℕ → ℕ → ℕ → ℕ
-below first second low = (first + second) * 2 ^ 16 + low
+abbrev pub rest : ℕ → ℕ → ℕ → ℕ
+rest first second low = (first + second) * 2 ^ 16 + low
 
 -- ---- worked examples: the last number of one half and the one after it, the largest of 32 bits, and one whose halves differ
 halved :
@@ -33,5 +33,5 @@ beyond-it : OfHalves 4294836226 → ⊥
 beyond-it h = omega arith
 
 -- (3·2^16 + 5)·(7·2^16 + 11) is 21·2^32 and this
-by-halves : (below 33 35 55 ≡ 4456503) × (21 * 2 ^ 32 + below 33 35 55 ≡ 196613 * 458763)
+by-halves : (rest 33 35 55 ≡ 4456503) × (21 * 2 ^ 32 + rest 33 35 55 ≡ 196613 * 458763)
 by-halves = (refl, refl)

@@ -1,5 +1,5 @@
 -- `table::length_by` meets its contract: head and pieces together have at most 120 bytes by the table's rule.
-use Rattle.whole.proofs.Basics.{refl, _≤_, arith, needs}
+use Rattle.whole.proofs.Basics.{refl, _≤_, needs}
 use Rattle.table.specs.Table.{lengthBy}
 use Rattle.table.proofs.Rule.{short}
 use Rattle.table.proofs.length_by.Statement.{statement}

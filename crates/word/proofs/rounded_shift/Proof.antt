@@ -1,8 +1,8 @@
 -- `word::rounded_shift` meets its contract: n is its size with its sign put back.
-use Rattle.whole.proofs.Basics.{_≡_, _∙_, ap, ap₂, _^_, _<_, arith, ℤ, pos, natAbs, w64, needs}
+use Rattle.whole.proofs.Basics.{_∙_, ap, ap₂, _^_, arith, ℤ, pos, natAbs, w64}
 use Rattle.whole.proofs.Diff.{n}
 use Rattle.whole.proofs.Fit.{fit}
-use Rattle.whole.proofs.Held.{back, Held, held, held-nat, cast-nat, arg, given, known}
+use Rattle.whole.proofs.Held.{Held, held, held-nat, cast-nat, arg, given, known}
 use Rattle.whole.proofs.Order.{pos-le}
 use Rattle.word.specs.Rounded.{rounded}
 use Rattle.word.specs.Words.{withSign}

@@ -1,10 +1,10 @@
--- `word::long_times` meets its contract: its upper and its lower word make up what `long-is` speaks of.
+-- `word::multiply::long_times` meets its contract: its upper and its lower word make up what `long-is` speaks of.
 use Rattle.whole.proofs.Basics.{_≡_, ℕ, _+_, _*_, _^_, arith, needs}
 use native.Mathlib.Nat.{div-add-mod}
-use Rattle.word.specs.Halves.{below}
-use Rattle.word.proofs.HalvesLaws.{of-halves, long-is}
-use Rattle.word.proofs.long_times.Statement.{statement}
-use Rattle.word.proofs.long_times.Tie as tie
+use Rattle.word.specs.Halves.{rest}
+use Rattle.word.proofs.MultiplyLaws.{of-halves, long-is}
+use Rattle.word.proofs.multiply.long_times.Statement.{statement}
+use Rattle.word.proofs.multiply.long_times.Tie as tie
 
 -- ---- the four products
 module _ (c : tie.After-times4) where
@@ -23,10 +23,10 @@ module _ (c : tie.After-times4) where
   abbrev x : tie.After-split
   x = y .before
 
-  abbrev rest : ℕ
-  rest = below (first .times .result) (second .times2 .result) (low .times3 .result)
+  abbrev left : ℕ
+  left = rest (first .times .result) (second .times2 .result) (low .times3 .result)
 
-  whole-is : c .times4 .result * 2 ^ 32 + rest ≡ x .before .args .a * x .before .args .b
+  whole-is : c .times4 .result * 2 ^ 32 + left ≡ x .before .args .a * x .before .args .b
   whole-is = omega (arith, c .times4 .ensures, first .times .ensures, second .times2 .ensures, low .times3 .ensures, long-is _ _ _ _ (x .split .ensures .0) (y .split2 .ensures .0))
 
 upper-word-requires : tie.Need-upper-word-requires
@@ -38,7 +38,7 @@ upper-word-requires c κs =
 returns : tie.Need-returns
 returns c =
     let u = c .before in
-    omega (arith, u .upper-word .ok, u .upper-word .ensures, c .lower-word .ensures, div-add-mod (rest (u .before)) (2 ^ 32), whole-is (u .before))
+    omega (arith, u .upper-word .ok, u .upper-word .ensures, c .lower-word .ensures, div-add-mod (left (u .before)) (2 ^ 32), whole-is (u .before))
 
 pub long-times-spec : {M : Type 1} → statement M
 long-times-spec =

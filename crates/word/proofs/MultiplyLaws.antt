@@ -1,8 +1,8 @@
 -- The laws of halves: they make up their number, and its products with another's halves make up the product.
 use Rattle.whole.proofs.Basics.{_≡_, _∙_, ap, ap₂, ℕ, _+_, _*_, _/_, _^_, _<_, arith}
 use native.Mathlib.Nat.{div-add-mod, mod-lt, mul-le-mul}
-use Rattle.word.specs.Halves.{OfHalves, halvesOf, below}
-use Rattle.word.specs.declared.Halves.{Halves}
+use Rattle.word.specs.Halves.{OfHalves, halvesOf, rest}
+use Rattle.word.specs.declared.multiply.Halves.{Halves}
 
 pub high-below : (a : ℕ) → a < 2 ^ 32 → halvesOf a .high < 2 ^ 16
 high-below a h = omega (arith, div-add-mod a 65536)
@@ -22,10 +22,10 @@ pub carried-is :
     → l ≡ halvesOf low
     → carry ≡ halvesOf (first + l .high)
     → last ≡ halvesOf (second + carry .low)
-    → carry .high + last .high ≡ below first second low / 2 ^ 32
+    → carry .high + last .high ≡ rest first second low / 2 ^ 32
 carried-is first second low l carry last L C E =
     omega (arith, made-up _ l L, made-up _ carry C, made-up _ last E, ap (λ (h : Halves). h .low) L, low-below low, ap (λ (h : Halves). h .low) E, low-below (second + carry .low))
 
 -- the four products make up the whole one
-pub long-is : (a b : ℕ) (x y : Halves) → x ≡ halvesOf a → y ≡ halvesOf b → x .high * y .high * 2 ^ 32 + below (x .high * y .low) (x .low * y .high) (x .low * y .low) ≡ a * b
+pub long-is : (a b : ℕ) (x y : Halves) → x ≡ halvesOf a → y ≡ halvesOf b → x .high * y .high * 2 ^ 32 + rest (x .high * y .low) (x .low * y .high) (x .low * y .low) ≡ a * b
 long-is a b x y X Y = omega (arith, ap₂ _*_ (made-up a x X) (made-up b y Y))

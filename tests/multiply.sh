@@ -1,0 +1,43 @@
+#!/usr/bin/env bash
+# The library multiplies 16 by 16 bits: each multiplication that the compiler is given, and where the archive multiplies at all.
+set -u
+cd "$(dirname "$0")/.." || exit 2
+. tests/lib.sh
+need_library
+
+judge() { python3 tests/multiply.py word::multiply::times; }
+
+# The code before any pass of the compiler, since on a machine with a wide multiply it puts the halves together again.
+if rt mir valvepigeon >"$room/code" 2>"$room/log"; then pass; else fail "rt mir valvepigeon: $(tail -n 20 "$room/log")"; fi
+judge <"$room/code" >"$room/read" || fail 'tests/multiply.py has read no multiplication'
+while read -r verdict what; do
+    if [ "$verdict" = right ]; then pass; else fail "$what"; fi
+done <"$room/read"
+
+# The same code made wrong is told: wider factors, a step that is not below 2^16, one that is no power of two, and doubles.
+refused() { # WHAT PATTERN NEW
+    sed -E "s/$2/$3/" "$room/code" >"$room/wrong"
+    if ! cmp -s "$room/code" "$room/wrong" && judge <"$room/wrong" | grep -q '^wrong'; then pass; else fail "$1 are not told"; fi
+}
+refused 'factors of 32 bits' '("word::multiply::times" [^"]*)\(tyInt 16\)' '\1(tyInt 32)'
+refused 'steps of 65536' '(mul unsigned\) \(int 64) 4\)' '\1 65536)'
+refused 'steps of 12' '(mul unsigned\) \(int 64) 4\)' '\1 12)'
+refused 'products of doubles' 'op2 floatDiv' 'op2 floatMul'
+
+# A disassembler for x86-64, where there is one.
+for reader in objdump x86_64-linux-gnu-objdump ''; do
+    if [ -z "$reader" ] || "$reader" -i 2>/dev/null | grep -q '^elf64-x86-64'; then break; fi
+done
+
+# The functions of the archive that multiply whole numbers, by any instruction of x86-64 that does.
+multiplying() {
+    "$reader" -d --no-show-raw-insn target/staticlib/libvalvepigeon.a |
+        awk '/^[0-9a-f]+ <.*>:$/ { name = $2 } $2 ~ /^(i?mulx?|v?pmul|v?pmadd)/ && $2 !~ /^mul[sp][sd]$/ { print name }' |
+        sed 's/^<//; s/>:$//' | sort -u
+}
+if [ -n "$reader" ]; then
+    is 'what multiplies in the archive' "$(multiplying | tr '\n' ' ')" 'answering::answer_of records::formula_fault '
+else
+    echo 'skipped: the instructions of the archive, no objdump for x86-64 is here'
+fi
+conclude
