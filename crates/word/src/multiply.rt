@@ -1,4 +1,5 @@
-// Multiplication: of 16 by 16 bits, which every controller has, and of 32 by 32 bits, made of it.
+// Multiplication: of 16 by 16 bits, as the controller has it, and of 32 by 32 bits, made of that. Nothing else multiplies, but for
+// an index by the size of what it counts, which is a shift.
 ghost use mathlib.Core.Path.{_≡_};
 ghost use Prim.Native.Nat.{_+_, _*_, _/_, _%_, _<_, _^_};
 ghost use Rattle.word.specs.Halves.{OfHalves, halvesOf, rest};
@@ -20,14 +21,14 @@ fn split(a: u32) -> Halves
     }
 }
 
-// a·b: the only multiplication, of 16 by 16 bits.
+// a·b, both below 2^16 by their types: the only multiplication.
 pub fn times(a: u16, b: u16) -> u32
     ensures { λ r. ⌜ r ≡ a * b ⌝ }
 {
     (a as u32) * (b as u32)
 }
 
-// The upper 32 bits of a product of two halves by two: what is carried goes from half to half, and no sum is of more than 32 bits.
+// The upper 32 bits of the four products together: what is carried goes from half to half, by sums that 32 bits hold.
 fn upper_word(high: u32, first: u32, second: u32, low: u32) -> u32
     requires { ⌜ OfHalves high × OfHalves first × OfHalves second ⌝ }
     ensures { λ r. ⌜ r ≡ high + rest first second low / 2 ^ 32 ⌝ }
@@ -37,7 +38,8 @@ fn upper_word(high: u32, first: u32, second: u32, low: u32) -> u32
     high + (carry.high as u32) + (last.high as u32)
 }
 
-// The lower 32 bits. What a sum carries beyond them is in the upper ones.
+// The lower 32 bits: what a sum carries beyond them is in the upper ones. Taken from the carries they would cost as much on a
+// controller; in this form a compiler for a machine with a wide multiply knows a product, as it does in the upper ones.
 fn lower_word(first: u32, second: u32, low: u32) -> u32
     ensures { λ r. ⌜ r ≡ rest first second low % 2 ^ 32 ⌝ }
 {
