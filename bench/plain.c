@@ -1,5 +1,6 @@
-/* The library's functions in plain C, in one file, with the same signatures and structs, as an expert writes them for speed: what the
-   library is measured against. Nothing here is proved. It is for x86-64: words lie in the sheet's bytes as in memory. */
+/* The library's functions in plain C, in one file, with the same signatures and structs, as an expert writes them for speed who may
+   multiply 16 by 16 bits only: what the library is measured against. Nothing here is proved. It is for x86-64: words lie in the sheet's
+   bytes as in memory. */
 #include <string.h>
 #include "plain.h"
 
@@ -15,13 +16,13 @@ static inline void put16(uint8_t *p, uint16_t v) { memcpy(p, &v, 2); }
 static inline void put32(uint8_t *p, uint32_t v) { memcpy(p, &v, 4); }
 
 /* The only multiplication but by constants: of 16 by 16 bits, as the library's. */
-static inline uint32_t halves(uint16_t a, uint16_t b) { return (uint32_t)a * b; }
+static inline uint32_t times(uint16_t a, uint16_t b) { return (uint32_t)a * b; }
 
-/* a * b from halves, in the form that is the shortest with each compiler: clang knows a product's upper and lower word by sums of 32 bits
-   again, and puts the halves together. */
-static inline uint64_t times(uint32_t a, uint32_t b) {
+/* a * b from halves, in the form that is the shortest with each compiler: clang recognises the two words of a product in sums of 32 bits,
+   and makes a multiplication of each. */
+static inline uint64_t long_times(uint32_t a, uint32_t b) {
     uint16_t a1 = a >> 16, a0 = a, b1 = b >> 16, b0 = b;
-    uint32_t high = halves(a1, b1), first = halves(a1, b0), second = halves(a0, b1), low = halves(a0, b0);
+    uint32_t high = times(a1, b1), first = times(a1, b0), second = times(a0, b1), low = times(a0, b0);
 #ifdef __clang__
     uint32_t carry = first + (low >> 16), last = second + (carry & 0xFFFF);
     uint32_t upper = high + (carry >> 16) + (last >> 16), lower = ((first + second) << 16) + low;
@@ -35,7 +36,7 @@ static inline uint32_t size(int32_t x) { return x < 0 ? 0u - (uint32_t)x : (uint
 
 /* Arithmetic: of words, rounded to the nearest, a tie away from zero, and so by their sizes; of bounds, rounded upward. */
 static inline wide product(int32_t a, int32_t b) {
-    wide n = (wide)((times(size(a), size(b)) + ONE / 2) >> PLACES);
+    wide n = (wide)((long_times(size(a), size(b)) + ONE / 2) >> PLACES);
     return (a ^ b) < 0 ? -n : n;
 }
 
@@ -45,7 +46,7 @@ static inline wide quotient(int32_t a, int32_t d) {
     return ((wide)a * (2 * ONE) + half) / (2 * e);
 }
 
-static inline uint64_t bound_product(uint32_t a, uint32_t b) { return (times(a, b) + (ONE - 1)) >> PLACES; }
+static inline uint64_t bound_product(uint32_t a, uint32_t b) { return (long_times(a, b) + (ONE - 1)) >> PLACES; }
 static inline uint64_t bound_quotient(uint64_t g, uint64_t l) { return ((g << PLACES) + (l - 1)) / l; }
 
 /* Admission: 0, or the refusal. `a` bounds the argument's size, `c` is where the coefficients stand. */

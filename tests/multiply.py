@@ -5,10 +5,10 @@
 The code is that of the crate and of all that it stands on, before any pass of
 the compiler. A multiplication may have two factors of 16 bits, each a value of
 a 16-bit type or one that was widened from it, and stand in one of the
-FUNCTIONs; or it is an index's, by the size of what is counted: a power of two
-below 2^16, which is a shift. No doubles are multiplied. For each
-multiplication, and for each FUNCTION that has none, there is a line on
-standard output: `right` or `wrong`, the function, and what it multiplies.
+FUNCTIONs; or it is by a constant, a power of two below 2^16, which is a shift.
+No doubles are multiplied. For each multiplication, and for each FUNCTION that
+has none, there is a line on standard output: `right` or `wrong`, the function,
+and what it multiplies.
 """
 
 import re
@@ -56,19 +56,32 @@ def plain(operand):
     return None
 
 
+def uses(item, place):
+    """Each list of the code that has a local's place, but for what reads it."""
+    for node in below(item):
+        for part in node:
+            if part[:2] == ["place", str(place)] and node[0] not in ("copy", "move"):
+                yield node
+
+
+def widens(types, node):
+    """Whether a list of the code assigns to a place what had 16 bits."""
+    if node[0] != "assign" or node[2][0] != "op1" or node[2][1][0] != "cast":
+        return False
+    given = plain(node[2][2])
+    return given is not None and types[given] == ["tyInt", "16"]
+
+
 def sixteen(item, operand):
-    """Whether an operand has 16 bits: by its type, or widened from 16 bits
-    wherever its local is assigned."""
+    """Whether an operand has 16 bits: by its type, or since nothing is done to
+    its local but to widen 16 bits to it and to read it."""
     types, place = locals_of(item), plain(operand)
     if place is None:
         return False
     if types[place] == ["tyInt", "16"]:
         return True
-    given = [node[2] for node in below(item)
-             if node[:1] == ["assign"] and node[1] == ["place", str(place), "lnil"]]
-    return bool(given) and all(
-        value[0] == "op1" and value[1][0] == "cast" and plain(value[2]) is not None
-        and types[plain(value[2])] == ["tyInt", "16"] for value in given)
+    found = list(uses(item, place))
+    return bool(found) and all(widens(types, node) for node in found)
 
 
 def step(operand):

@@ -124,6 +124,11 @@ mode-and-depth : (rowOf 0x0012 .mode ≡ field 16 0 2 0) × (rowOf 0x0012 .p ≡
 unfolding rows firstRow rowOf
 mode-and-depth = (refl, refl)
 
+-- 3 and 5 coefficients are 8 words
+unequal-counts : lengthBy (rowOf 0x0011) 3 5 ≡ 52
+unfolding rows firstRow rowOf piecesBy
+unequal-counts = refl
+
 -- a fraction of depth 2 has b0, a1, b1, a2, b2
 depth-two : piecesBy (rowOf 0x0012) 2 0 ≡ 5
 unfolding rows firstRow rowOf piecesBy

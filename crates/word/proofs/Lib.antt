@@ -1,7 +1,7 @@
--- Laws of the operations on words, lowest first; other crates use all but `HalfLaws`.
+-- Laws of the operations on words, lowest first; other crates use all but `MultiplyLaws` and `NearestLaws`.
 pub mod MultiplyLaws
-pub mod HalfLaws
-pub mod RoundedLaws
+pub mod NearestLaws
 pub mod SignLaws
+pub mod RoundedLaws
 pub mod WordLaws
 pub mod ListLaws

@@ -1,8 +1,7 @@
 -- The laws of rounding: odd, how near, where a tie goes, that these two determine the result, how large, exact where it divides. They are laws of
 -- naturals, carried to the numbers below zero. A change of the tie rule changes `rounded-odd`, `rounded-tie`, `rounded-determined` and what the
 -- functions use; the other laws keep their statements.
-use Rattle.whole.proofs.Basics.{_≡_, _∙_, refl, sym, ap, ap₂, Bool, true, false, not, ℕ, suc, zero, _+_, _-_, _*_, _/_, _≤_, _<_, arith, ℤ, pos, negsuc, negℤ, natAbs, _+ℤ_, _-ℤ_, _*ℤ_}
-use mathlib.Core.Bool.{Bool·beq}
+use Rattle.whole.proofs.Basics.{_≡_, _∙_, refl, sym, ap, ap₂, Bool, true, false, ℕ, suc, zero, _+_, _-_, _*_, _/_, _≤_, _<_, arith, ℤ, pos, negsuc, negℤ, natAbs, _+ℤ_, _-ℤ_, _*ℤ_}
 use native.Mathlib.Decide.{decLe}
 use native.Mathlib.Nat.{div-add-mod, div-zero, mod-lt, lt-of-mul-lt-mul-left}
 use lib.IntN.{negℤ-negℤ}
@@ -11,7 +10,8 @@ use Rattle.whole.proofs.Diff.{v, n, _⊕_, _⊗_, _⊝_, ⊖_, same, same-out, 
 use Rattle.whole.proofs.Order.{abs-neg}
 use Rattle.word.specs.Rounded.{halfUp, rounded, roundedUp}
 use Rattle.word.specs.Words.{belowZero, withSign}
-use Rattle.word.proofs.HalfLaws.{half-low, half-high, half-is, half-zero, half-same}
+use Rattle.word.proofs.NearestLaws.{half-low, half-high, half-is, half-zero, half-same}
+use Rattle.word.proofs.SignLaws.{differ}
 
 -- ---- rounded up
 pub up-above : (a d : ℕ) → 0 < d → a ≤ roundedUp a d * d
@@ -112,7 +112,7 @@ rounded-sign false a d = refl
 twice : (k : ℕ) → suc (suc (k + k)) ≡ suc k + suc k
 twice k = omega arith
 
-pub divided-is : (m d : ℤ) → quotZ (m +ℤ m +ℤ withSign (not (Bool·beq (belowZero m) (belowZero d))) d) (d +ℤ d) ≡ rounded (withSign (belowZero d) m) (natAbs d)
+pub divided-is : (m d : ℤ) → quotZ (m +ℤ m +ℤ withSign (differ m d) d) (d +ℤ d) ≡ rounded (withSign (belowZero d) m) (natAbs d)
 unfolding rounded
 divided-is (pos a) (pos b) = refl
 divided-is (pos a) (negsuc b) = ap (λ (k : ℕ). negℤ (pos ((a + a + suc b) / k))) (twice b) ∙ sym (rounded-odd (pos a) (suc b))

@@ -1,5 +1,5 @@
--- The laws of the sign, by its two cases: how it is tested for, what keeps it, what it leaves of a number, and that a number is its size with its
--- sign put back.
+-- The laws of the sign, by its two cases: how it is tested for, what keeps it, what it leaves of a number, that a number is its size with its
+-- sign put back, and a product's sign.
 use Rattle.whole.proofs.Basics.{_≡_, _∙_, refl, sym, ap, Bool, true, false, not, ℕ, suc, zero, _*_, _<_, arith, ℤ, pos, negsuc, negℤ, natAbs, _+ℤ_, _-ℤ_, _*ℤ_, ltZ, SFits}
 use mathlib.Core.Bool.{Bool·beq}
 use lib.IntN.{negℤ-negℤ}
@@ -11,13 +11,9 @@ use Rattle.whole.proofs.Order.{abs-neg}
 use Rattle.word.specs.Words.{belowZero, withSign}
 
 -- a test for a sign, and that scaling keeps it
-pub below-is : (z : ℤ) → ltZ z (pos 0) ≡ belowZero z
+below-is : (z : ℤ) → ltZ z (pos 0) ≡ belowZero z
 below-is (pos k) = lt-leb (suc k) 0 (omega arith)
 below-is (negsuc k) = refl
-
--- the same test, of a signed local
-pub below-read : {w : Width} {x : ℤ} → SFits w x → ltZ (back w x) (pos 0) ≡ belowZero x
-below-read {w} {x} f = ap (λ (z : ℤ). ltZ z (pos 0)) (held (arg {w = w} f)) ∙ below-is x
 
 below-negated : (k : ℕ) → 0 < k → belowZero (negℤ (pos k)) ≡ true
 below-negated zero h = absurd (omega arith)
@@ -26,6 +22,10 @@ below-negated (suc k) h = refl
 pub below-scaled : (z : ℤ) (k : ℕ) → 0 < k → belowZero z ≡ belowZero (z *ℤ pos k)
 below-scaled (pos a) k h = refl
 below-scaled (negsuc a) k h = sym (below-negated (suc a * k) (omega arith))
+
+-- as a function tests a signed local
+pub below-read : {w : Width} {x : ℤ} → SFits w x → ltZ (back w x) (pos 0) ≡ belowZero x
+below-read {w} {x} f = ap (λ (z : ℤ). ltZ z (pos 0)) (held (arg {w = w} f)) ∙ below-is x
 
 pub sign-abs : (t : Bool) (z : ℤ) → natAbs (withSign t z) ≡ natAbs z
 sign-abs true z = abs-neg z

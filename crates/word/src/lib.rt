@@ -1,4 +1,4 @@
-// The number on the board: products, quotients and their bounds, of words at s binary places. `multiply` has every multiplication.
+// The number on the board: products, quotients and their bounds, of words at s binary places.
 ghost use mathlib.Core.Path.{_≡_};
 ghost use Prim.Native.Nat.{_*_, _<_, _≤_, _^_};
 ghost use lib.IntN.{natAbs, pos};
@@ -10,7 +10,7 @@ pub mod multiply;
 // M, the largest word.
 pub const LARGEST: u64 = 2147483647;
 
-// |x|, the one place where a sign is taken off. Of the pattern that is no word it is 2147483648.
+// |x|. Of the pattern that is no word it is 2147483648.
 pub fn magnitude(x: i32) -> u32
     ensures { λ r. ⌜ r ≡ natAbs x ⌝ }
 {
@@ -21,7 +21,7 @@ pub fn magnitude(x: i32) -> u32
     }
 }
 
-// m, negated where the sign is set: the one place where a sign is put back.
+// m, negated where the sign is set: the one place where a 64-bit number's sign is taken off or put back.
 pub fn with_sign(sign: bool, m: i64) -> i64
     requires { ⌜ natAbs m < 2 ^ 63 ⌝ }
     ensures { λ r. ⌜ r ≡ withSign sign m ⌝ }
@@ -45,7 +45,7 @@ pub fn scaled(a: u32, s: u32) -> u64
 }
 
 // size / 2^cut, rounded, and then the sign put back. The shift rounds down, so half of the divisor is added first.
-fn rounded_size(sign: bool, size: u64, cut: u32) -> i64
+fn rounded_with_sign(sign: bool, size: u64, cut: u32) -> i64
     requires { ⌜ (size < 2 ^ 62) × (0 < cut) × (cut < 63) ⌝ }
     ensures { λ r. ⌜ r ≡ rounded (withSign sign (pos size)) (2 ^ cut) ⌝ }
 {
@@ -59,7 +59,7 @@ pub fn rounded_shift(n: i64, cut: u32) -> i64
     ensures { λ r. ⌜ r ≡ rounded n (2 ^ cut) ⌝ }
 {
     let sign = n < 0;
-    rounded_size(sign, with_sign(sign, n) as u64, cut)
+    rounded_with_sign(sign, with_sign(sign, n) as u64, cut)
 }
 
 pub fn product(a: i32, b: i32, s: u32) -> i64
@@ -67,7 +67,7 @@ pub fn product(a: i32, b: i32, s: u32) -> i64
     ensures { λ r. ⌜ r ≡ productOf s a b ⌝ }
 {
     let n = multiply::long_times(magnitude(a), magnitude(b));
-    rounded_size((a < 0) != (b < 0), n, s)
+    rounded_with_sign((a < 0) != (b < 0), n, s)
 }
 
 // 2·m / 2·d, whose divisor has a half. The division rounds towards zero, so that half is added first, away from zero: d, negated where the signs
@@ -82,7 +82,7 @@ pub fn quotient(a: i32, d: i32, s: u32) -> i64
     (m + m + half) / (e + e)
 }
 
-// The first factor is the size of a 32-bit pattern at most, so that the product fits.
+// What is asked of the first factor is what callers have shown; the sum would fit without it.
 pub fn bound_product(a: u32, b: u32, s: u32) -> u64
     requires { ⌜ Scale s × (a ≤ 2 ^ 31) ⌝ }
     ensures { λ r. ⌜ r ≡ boundProduct s a b ⌝ }

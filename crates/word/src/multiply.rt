@@ -2,7 +2,7 @@
 // an index by the size of what it counts, which is a shift.
 ghost use mathlib.Core.Path.{_≡_};
 ghost use Prim.Native.Nat.{_+_, _*_, _/_, _%_, _<_, _^_};
-ghost use Rattle.word.specs.Halves.{OfHalves, halvesOf, rest};
+ghost use Rattle.word.specs.Halves.{OfHalves, halvesOf, middleAndLow};
 
 // The upper and the lower 16 binary digits of a number.
 struct Halves {
@@ -21,7 +21,7 @@ fn split(a: u32) -> Halves
     }
 }
 
-// a·b, both below 2^16 by their types: the only multiplication.
+// a·b, both below 2^16 by their types.
 pub fn times(a: u16, b: u16) -> u32
     ensures { λ r. ⌜ r ≡ a * b ⌝ }
 {
@@ -31,17 +31,17 @@ pub fn times(a: u16, b: u16) -> u32
 // The upper 32 bits of the four products together: what is carried goes from half to half, by sums that 32 bits hold.
 fn upper_word(high: u32, first: u32, second: u32, low: u32) -> u32
     requires { ⌜ OfHalves high × OfHalves first × OfHalves second ⌝ }
-    ensures { λ r. ⌜ r ≡ high + rest first second low / 2 ^ 32 ⌝ }
+    ensures { λ r. ⌜ r ≡ high + middleAndLow first second low / 2 ^ 32 ⌝ }
 {
     let carry = split(first + (split(low).high as u32));
     let last = split(second + (carry.low as u32));
     high + (carry.high as u32) + (last.high as u32)
 }
 
-// The lower 32 bits: what a sum carries beyond them is in the upper ones. Taken from the carries they would cost as much on a
-// controller; in this form a compiler for a machine with a wide multiply knows a product, as it does in the upper ones.
+// The lower 32 bits: what a sum carries beyond them is in the upper ones. A compiler may recognise both words of a product in these
+// forms, and put the halves together again: docs/DECISIONS.md.
 fn lower_word(first: u32, second: u32, low: u32) -> u32
-    ensures { λ r. ⌜ r ≡ rest first second low % 2 ^ 32 ⌝ }
+    ensures { λ r. ⌜ r ≡ middleAndLow first second low % 2 ^ 32 ⌝ }
 {
     let middle = std::num::wrapping_add_u32(first, second);
     std::num::wrapping_add_u32(middle << 16, low)

@@ -27,16 +27,16 @@ module _ (c : tie.After-long-times) where
   sign-is : not (Bool·beq (ltZ (back w32 a) (pos 0)) (ltZ (back w32 b) (pos 0))) ≡ differ a b
   sign-is = ap₂ (λ (x y : Bool). not (Bool·beq x y)) (below-read (start .fits .a)) (below-read (start .fits .b))
 
-rounded-size-requires : tie.Need-rounded-size-requires
-rounded-size-requires c κs =
+rounded-with-sign-requires : tie.Need-rounded-with-sign-requires
+rounded-with-sign-requires c κs =
     let d = start c in
     (omega (arith, n-is c, mul-le-mul (d .pre .1) (d .pre .2)), omega (arith, d .pre .0 .least), omega (arith, d .pre .0 .most))
 
 returns : tie.Need-returns
 returns c =
     let d = c .before in
-    held (given {w = w64} {x = c .rounded-size .result} (c .rounded-size .ok))
-    ∙ c .rounded-size .ensures
+    held (given {w = w64} {x = c .rounded-with-sign .result} (c .rounded-with-sign .ok))
+    ∙ c .rounded-with-sign .ensures
     ∙ ap (λ (z : ℤ). rounded z (2 ^ start d .args .s)) (ap₂ (λ (t : Bool) (k : ℕ). withSign t (pos k)) (sign-is d) (n-is d) ∙ sign-times (a d) (b d))
 
 pub product-spec : {M : Type 1} → statement M
@@ -46,5 +46,5 @@ product-spec =
     (λ c κs. search needs)
     (λ c κs. search needs)
     (λ c κs. search needs)
-    rounded-size-requires
+    rounded-with-sign-requires
     returns)

@@ -1,7 +1,7 @@
 -- `word::multiply::long_times` meets its contract: its upper and its lower word make up what `long-is` speaks of.
 use Rattle.whole.proofs.Basics.{_≡_, ℕ, _+_, _*_, _^_, arith, needs}
 use native.Mathlib.Nat.{div-add-mod}
-use Rattle.word.specs.Halves.{rest}
+use Rattle.word.specs.Halves.{middleAndLow}
 use Rattle.word.proofs.MultiplyLaws.{of-halves, long-is}
 use Rattle.word.proofs.multiply.long_times.Statement.{statement}
 use Rattle.word.proofs.multiply.long_times.Tie as tie
@@ -24,7 +24,7 @@ module _ (c : tie.After-times4) where
   x = y .before
 
   abbrev left : ℕ
-  left = rest (first .times .result) (second .times2 .result) (low .times3 .result)
+  left = middleAndLow (first .times .result) (second .times2 .result) (low .times3 .result)
 
   whole-is : c .times4 .result * 2 ^ 32 + left ≡ x .before .args .a * x .before .args .b
   whole-is = omega (arith, c .times4 .ensures, first .times .ensures, second .times2 .ensures, low .times3 .ensures, long-is _ _ _ _ (x .split .ensures .0) (y .split2 .ensures .0))

@@ -1,7 +1,7 @@
 -- `word::multiply::upper_word` meets its contract: a product of halves leaves room in 32 bits for two halves more, and `carried-is` says what these are.
 use Rattle.whole.proofs.Basics.{_≡_, _∙_, ap, ℕ, _+_, _/_, _^_, arith, needs}
 use native.Mathlib.Nat.{add-assoc}
-use Rattle.word.specs.Halves.{rest}
+use Rattle.word.specs.Halves.{middleAndLow}
 use Rattle.word.proofs.MultiplyLaws.{carried-is}
 use Rattle.word.proofs.multiply.upper_word.Statement.{statement}
 use Rattle.word.proofs.multiply.upper_word.Tie as tie
@@ -22,7 +22,7 @@ module _ (c : tie.After-struct-known3) where
   abbrev low : tie.After-split
   low = carry .before .before
 
-  carried : carry .split2 .result .high + last .split3 .result .high ≡ rest (low .before .args .first) (low .before .args .second) (low .before .args .low) / 2 ^ 32
+  carried : carry .split2 .result .high + last .split3 .result .high ≡ middleAndLow (low .before .args .first) (low .before .args .second) (low .before .args .low) / 2 ^ 32
   carried = carried-is _ _ _ _ _ _ (low .split .ensures .0) (carry .split2 .ensures .0) (last .split3 .ensures .0)
 
 add-result : tie.Need-add-result

@@ -1,4 +1,4 @@
--- `word::rounded_size` meets its contract: the sum with the half fits, and `half-shift` and `rounded-sign` say what is made of it.
+-- `word::rounded_with_sign` meets its contract: the sum with the half fits, and `half-shift` and `rounded-sign` say what is made of it.
 use Rattle.whole.proofs.Basics.{_≡_, _∙_, sym, ap, ℕ, _+_, _-_, _*_, _/_, _^_, _<_, arith, pos, w64, needs}
 use native.Mathlib.Nat.{pow-succ', div-le-self}
 use lib.Pow.{pow-pos, pow-lt}
@@ -6,10 +6,10 @@ use Rattle.whole.proofs.Diff.{n}
 use Rattle.whole.proofs.Fit.{fit}
 use Rattle.whole.proofs.Held.{Held, fits-code, held, held-nat, arg, given}
 use Rattle.word.specs.Words.{withSign}
-use Rattle.word.proofs.HalfLaws.{half-shift}
+use Rattle.word.proofs.NearestLaws.{half-shift}
 use Rattle.word.proofs.RoundedLaws.{rounded-sign}
-use Rattle.word.proofs.rounded_size.Statement.{statement}
-use Rattle.word.proofs.rounded_size.Tie as tie
+use Rattle.word.proofs.rounded_with_sign.Statement.{statement}
+use Rattle.word.proofs.rounded_with_sign.Tie as tie
 
 halved : (cut : ℕ) → 0 < cut → 2 * 2 ^ (cut - 1) ≡ 2 ^ cut
 halved cut h = sym (pow-succ' 2 (cut - 1)) ∙ ap (λ (k : ℕ). 2 ^ k) (omega arith)
@@ -42,8 +42,8 @@ returns c =
     ∙ ap (withSign t) (held (held-q b) ∙ ap pos (half-shift (start b .args .size) (b .power-of-two .result) (2 ^ cut b) (pow-pos (cut b)) (omega (arith, b .power-of-two .ensures, halved (cut b) (start b .pre .1)))))
     ∙ sym (rounded-sign t (start b .args .size) (2 ^ cut b))
 
-pub rounded-size-spec : {M : Type 1} → statement M
-rounded-size-spec =
+pub rounded-with-sign-spec : {M : Type 1} → statement M
+rounded-with-sign-spec =
     tie.close
     (tie.spec
     (λ c. search needs)
