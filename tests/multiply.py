@@ -5,10 +5,10 @@
 The code is that of the crate and of all that it stands on, before any pass of
 the compiler. A multiplication may have two factors of 16 bits, each a value of
 a 16-bit type or one that was widened from it, and stand in one of the
-FUNCTIONs; or it is by a constant, a power of two below 2^16, which is a shift.
-No doubles are multiplied. For each multiplication, and for each FUNCTION that
-has none, there is a line on standard output: `right` or `wrong`, the function,
-and what it multiplies.
+FUNCTIONs; or it is a place's, by 2, 4 or 8, the sizes of what is counted. No
+doubles are multiplied. For each multiplication, and for each FUNCTION that has
+none, there is a line on standard output: `right` or `wrong`, the function, and
+what it multiplies.
 """
 
 import re
@@ -85,11 +85,8 @@ def sixteen(item, operand):
 
 
 def step(operand):
-    """Whether an operand is a power of two below 2^16."""
-    if operand[0] != "int":
-        return False
-    number = int(operand[2])
-    return 0 < number < 2 ** 16 and number & (number - 1) == 0
+    """Whether an operand is the size of what places are counted by."""
+    return operand[0] == "int" and operand[2] in ("2", "4", "8")
 
 
 def shown(operand):

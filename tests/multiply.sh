@@ -25,8 +25,7 @@ refused 'a factor that a call gives' "$times\\(assign \\(place 3 lnil\\) [^)]*\\
 refused 'a multiplication that is an addition' "$times\\(mul unsigned\\)" '\1(add unsigned)'
 refused 'a multiplication in another function' 'fn-def "word::multiply::times"' 'fn-def "word::multiply::other"'
 refused 'a sum of two numbers that is a product' 'op2 \(add unsigned\)( \(copy \(place [0-9]+ lnil\)\)){2}' 'op2 (mul unsigned) (copy (place 1 lnil)) (copy (place 2 lnil))'
-refused 'a step of 65536' '(mul unsigned\) \(int 64) 4\)' '\1 65536)'
-refused 'a step of 12' '(mul unsigned\) \(int 64) 4\)' '\1 12)'
+refused 'a step of 16' '(mul unsigned\) \(int 64) 4\)' '\1 16)'
 refused 'a product of doubles' 'op2 floatDiv' 'op2 floatMul'
 
 # A disassembler for x86-64, where there is one.
