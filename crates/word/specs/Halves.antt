@@ -33,10 +33,11 @@ largest-product = lit≤ tt
 beyond-it : OfHalves 4294836226 → ⊥
 beyond-it h = omega arith
 
--- (3·2^16 + 5)·(7·2^16 + 11) is 21·2^32 and this; the largest number's square is its halves' product·2^32 and this, which passes 32 digits
+-- (3·2^16 + 5)·(7·2^16 + 11) is 21·2^32 and this
 by-halves : (middleAndLow 33 35 55 ≡ 4456503) × (21 * 2 ^ 32 + middleAndLow 33 35 55 ≡ 196613 * 458763)
 by-halves = (refl, refl)
 
+-- the square of the largest number: here it passes 32 digits, and something is carried
 largest-by-halves :
     (middleAndLow 4294836225 4294836225 4294836225 ≡ 562937068519425)
     × (4294836225 * 2 ^ 32 + middleAndLow 4294836225 4294836225 4294836225 ≡ 4294967295 * 4294967295)

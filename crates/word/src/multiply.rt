@@ -1,5 +1,5 @@
-// Multiplication: of 16 by 16 bits, as the controller has it, and of 32 by 32 bits, made of that. Nothing else multiplies, but for
-// an index by the size of what it counts, which is a shift.
+// Multiplication: of 16 by 16 bits, as the controller has it, and of 32 by 32 bits, made of that. Besides, only places are
+// multiplied, by the size of what is counted, which is a shift.
 ghost use mathlib.Core.Path.{_≡_};
 ghost use Prim.Native.Nat.{_+_, _*_, _/_, _%_, _<_, _^_};
 ghost use Rattle.word.specs.Halves.{OfHalves, halvesOf, middleAndLow};
@@ -10,7 +10,7 @@ struct Halves {
     low: u16,
 }
 
-// The one place where a number is split.
+// The one place where a number is cut into halves.
 fn split(a: u32) -> Halves
     ensures halves { λ r. ⌜ r ≡ halvesOf a ⌝ }
     ensures below { λ r. ⌜ (r .high < 2 ^ 16) × (r .low < 2 ^ 16) ⌝ }
