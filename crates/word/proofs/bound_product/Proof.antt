@@ -6,10 +6,11 @@ use Rattle.word.specs.Rounded.{roundedUp}
 use Rattle.word.proofs.bound_product.Statement.{statement}
 use Rattle.word.proofs.bound_product.Tie as tie
 
-n-most : (c : tie.Start) → c .args .a * c .args .b ≤ 9223372034707292160
+n-most : (c : tie.Start) → c .args .a * c .args .b ≤ 4294967295 * 4294967295
 n-most c =
+    let a : c .args .a ≤ 4294967295 = omega (arith, c .fits .a .fits) in
     let b : c .args .b ≤ 4294967295 = omega (arith, c .fits .b .fits) in
-    mul-le-mul (c .pre .1) b
+    mul-le-mul a b
 
 sub-result : tie.Need-sub-result
 sub-result c = omega (arith, c .power-of-two .ensures, pow-pos (c .before .before .args .s))
