@@ -4,7 +4,7 @@
 use Rattle.whole.proofs.Basics.{_≡_, _∙_, refl, sym, ap, ap₂, subst, Bool, true, false, not, ℕ, suc, zero, _+_, _-_, _*_, _%_, _^_, _≤_, _<_, arith, T, ltb, leb, ℤ, pos, negsuc, natAbs, negℤ, _+ℤ_, _-ℤ_, _*ℤ_, _≤ℤ_, _<ℤ_, ltZ, SFits, toZ, ofZ, toZ-ofZ}
 use native.Mathlib.Nat.{add-mul-mod-self-left, mod-eq-of-lt}
 use lib.IntN.{+ℤ-idl}
-use lib.Signed.{nonNeg, yes-nonNeg, ltZ-no, mag, quotZ}
+use lib.Signed.{nonNeg, yes-nonNeg, ltZ-no, mag, mag-rem, quotZ, remZ}
 use mir.Syntax.{Width}
 use mir.Val.{Fits, bits, hbits}
 use mir.Facts.{sfits-lit, sfits-widen}
@@ -57,6 +57,9 @@ plus h k f = record { eq = ap₂ _+ℤ_ (held h) (held k); fits = f }
 
 pub quot : {w : Width} {x y x′ y′ : ℤ} → Held w x y → Held w x′ y′ → SFits w (quotZ y y′) → Held w (quotZ (back w x) (back w x′)) (quotZ y y′)
 quot h k f = record { eq = ap₂ quotZ (held h) (held k); fits = f }
+
+pub remainder : {w : Width} {x y x′ y′ : ℤ} → Held w x y → Held w x′ y′ → Held w (remZ (back w x) (back w x′)) (remZ y y′)
+remainder {w} {x} {y} {x′} {y′} h k = record { eq = ap₂ remZ (held h) (held k); fits = record { sfits = omega (arith, mag-rem y y′, h .fits .sfits) } }
 
 -- ---- what a division asks besides: that the divisor's bits are not 0, and that the quotient fits
 ofZ-pos : (w : Width) (z : ℤ) → SFits w z → 0 < natAbs z → 0 < ofZ w z

@@ -4,4 +4,6 @@ pub mod NearestLaws
 pub mod SignLaws
 pub mod RoundedLaws
 pub mod WordLaws
+pub mod ExactLaws
+pub mod LooseLaws
 pub mod ListLaws

@@ -4,8 +4,22 @@ ghost use Prim.Native.Nat.{_*_, _<_, _≤_, _^_};
 ghost use lib.IntN.{natAbs, pos};
 ghost use Rattle.word.specs.Rounded.{rounded};
 ghost use Rattle.word.specs.Words.{Scale, Factors, Division, unit, withSign, productOf, quotientOf, boundProduct, boundQuotient};
+ghost use Rattle.word.specs.Exact.{divides, exactProduct, exactQuotient, wholeAt};
 
 pub mod multiply;
+
+// A product or a quotient, rounded to a whole number. The last s binary digits of `loose` are 0 exactly where nothing was rounded off; a
+// walk joins the `loose` of its operations by `or`, and looks at the digits once, at its end.
+pub struct Rounding {
+    pub value: i64,
+    pub loose: u64,
+}
+
+// A word worked out by such operations, and the `loose` of all of them.
+pub struct Marked {
+    pub word: i32,
+    pub loose: u64,
+}
 
 // M, the largest word.
 pub const LARGEST: u64 = 2147483647;
@@ -36,6 +50,15 @@ pub fn power_of_two(k: u32) -> u64
     1u64 << (k as u64)
 }
 
+// Whether the last s binary digits are 0.
+pub fn is_whole(loose: u64, s: u32) -> bool
+    requires { ⌜ s < 64 ⌝ }
+    ensures { λ r. ⌜ r ≡ wholeAt s loose ⌝ }
+{
+    let mask = power_of_two(s) - 1;
+    loose & mask == 0
+}
+
 // a·2^s, by a shift.
 pub fn scaled(a: u32, s: u32) -> u64
     requires { ⌜ Scale s ⌝ }
@@ -53,33 +76,44 @@ fn rounded_with_sign(sign: bool, size: u64, cut: u32) -> i64
     with_sign(sign, ((size + half) >> (cut as u64)) as i64)
 }
 
-// n / 2^cut, rounded.
-pub fn rounded_shift(n: i64, cut: u32) -> i64
+// n / 2^cut, rounded; here the last `cut` digits of `loose` tell. It is n's size.
+pub fn rounded_shift(n: i64, cut: u32) -> Rounding
     requires { ⌜ (natAbs n < 2 ^ 62) × (0 < cut) × (cut < 63) ⌝ }
-    ensures { λ r. ⌜ r ≡ rounded n (2 ^ cut) ⌝ }
+    ensures value { λ r. ⌜ r .value ≡ rounded n (2 ^ cut) ⌝ }
+    ensures mark { λ r. ⌜ wholeAt cut (r .loose) ≡ divides (2 ^ cut) n ⌝ }
 {
     let sign = n < 0;
-    rounded_with_sign(sign, with_sign(sign, n) as u64, cut)
+    let loose = with_sign(sign, n) as u64;
+    let value = rounded_with_sign(sign, loose, cut);
+    Rounding { value, loose }
 }
 
-pub fn product(a: i32, b: i32, s: u32) -> i64
+// What a product's rounding drops are the last digits of its size.
+pub fn product(a: i32, b: i32, s: u32) -> Rounding
     requires { ⌜ Factors s a b ⌝ }
-    ensures { λ r. ⌜ r ≡ productOf s a b ⌝ }
+    ensures value { λ r. ⌜ r .value ≡ productOf s a b ⌝ }
+    ensures mark { λ r. ⌜ wholeAt s (r .loose) ≡ exactProduct s a b ⌝ }
 {
-    let n = multiply::long_times(magnitude(a), magnitude(b));
-    rounded_with_sign((a < 0) != (b < 0), n, s)
+    let loose = multiply::long_times(magnitude(a), magnitude(b));
+    let value = rounded_with_sign((a < 0) != (b < 0), loose, s);
+    Rounding { value, loose }
 }
 
 // 2·m / 2·d, whose divisor has a half. The division rounds towards zero, so that half is added first, away from zero: d, negated where the signs
-// differ, has m's sign.
-pub fn quotient(a: i32, d: i32, s: u32) -> i64
+// differ, has m's sign. The half alone is left over where d divides m; `loose` is 0 then, and 1 otherwise.
+pub fn quotient(a: i32, d: i32, s: u32) -> Rounding
     requires { ⌜ Division s a d ⌝ }
-    ensures { λ r. ⌜ r ≡ quotientOf s a d ⌝ }
+    ensures value { λ r. ⌜ r .value ≡ quotientOf s a d ⌝ }
+    ensures mark { λ r. ⌜ wholeAt s (r .loose) ≡ exactQuotient s a d ⌝ }
 {
     let m = (a as i64) << (s as i64);
     let e = d as i64;
     let half = with_sign((a < 0) != (d < 0), e);
-    (m + m + half) / (e + e)
+    let n = m + m + half;
+    let by = e + e;
+    let value = n / by;
+    let loose = if n % by == half { 0u64 } else { 1u64 };
+    Rounding { value, loose }
 }
 
 // What is asked of the first factor is what callers have shown; the sum would fit without it.

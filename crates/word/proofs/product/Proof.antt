@@ -1,10 +1,12 @@
--- `word::product` meets its contract: the sizes' product, with the sign that `sign-times` gives it, is a·b.
-use Rattle.whole.proofs.Basics.{_≡_, _∙_, ap, ap₂, Bool, not, ℕ, _*_, _^_, arith, ℤ, pos, natAbs, ltZ, w32, w64, needs}
+-- `word::product` meets its contract: the sizes' product, with the sign that `sign-times` gives it, is a·b, and without it a·b's size.
+use Rattle.whole.proofs.Basics.{_≡_, _∙_, sym, ap, ap₂, Bool, not, ℕ, _*_, _^_, arith, ℤ, pos, natAbs, ltZ, w32, w64, needs}
 use mathlib.Core.Bool.{Bool·beq}
 use native.Mathlib.Nat.{mul-le-mul}
 use Rattle.whole.proofs.Held.{back, held, arg, given}
+use Rattle.whole.proofs.Order.{abs-mul}
 use Rattle.word.specs.Rounded.{rounded}
 use Rattle.word.specs.Words.{withSign}
+use Rattle.word.specs.Exact.{wholeAt}
 use Rattle.word.proofs.SignLaws.{below-read, differ, sign-times}
 use Rattle.word.proofs.product.Statement.{statement}
 use Rattle.word.proofs.product.Tie as tie
@@ -34,10 +36,12 @@ rounded-with-sign-requires c κs =
 
 returns : tie.Need-returns
 returns c =
-    let d = c .before in
-    held (given {w = w64} {x = c .rounded-with-sign .result} (c .rounded-with-sign .ok))
-    ∙ c .rounded-with-sign .ensures
-    ∙ ap (λ (z : ℤ). rounded z (2 ^ start d .args .s)) (ap₂ (λ (t : Bool) (k : ℕ). withSign t (pos k)) (sign-is d) (n-is d) ∙ sign-times (a d) (b d))
+    let d = c .before in (
+      held (given {w = w64} {x = c .rounded-with-sign .result} (c .rounded-with-sign .ok))
+          ∙ c .rounded-with-sign .ensures
+          ∙ ap (λ (z : ℤ). rounded z (2 ^ start d .args .s)) (ap₂ (λ (t : Bool) (k : ℕ). withSign t (pos k)) (sign-is d) (n-is d) ∙ sign-times (a d) (b d)),
+      ap (wholeAt (start d .args .s)) (n-is d ∙ sym (abs-mul (a d) (b d))),
+    )
 
 pub product-spec : {M : Type 1} → statement M
 product-spec =

@@ -1,19 +1,25 @@
--- `word::quotient` meets its contract: twice the scaled dividend, with the divisor added away from zero, is what `divided-is` speaks of, and nothing
--- wraps.
-use Rattle.whole.proofs.Basics.{_≡_, _∙_, ap₂, not, ℕ, _*_, _%_, _^_, _<_, arith, ℤ, pos, natAbs, _+ℤ_, _*ℤ_, w32, w64, toZ, ofZ, ltZ, needs}
-use mathlib.Core.Bool.{Bool, Bool·beq}
+-- `word::quotient` meets its contract: twice the scaled dividend, with the divisor added away from zero, is what `divided-is` speaks of, `left-half` and
+-- `half-left` say what the remainder tells, and nothing wraps.
+use Rattle.whole.proofs.Basics.{_≡_, _∙_, refl, sym, ap, ap₂, Bool, true, false, not, ℕ, _*_, _%_, _^_, _<_, arith, ℤ, pos, natAbs, _+ℤ_, _*ℤ_, w32, w64, toZ, ofZ, ltZ, needs}
+use mathlib.Core.Bool.{Bool·beq}
 use lib.Pow.{pow-pos}
-use lib.Signed.{quotZ}
+use lib.Signed.{quotZ, remZ}
 use Rattle.whole.proofs.Diff.{v, _⊕_, size}
 use Rattle.whole.proofs.Fit.{fit-abs}
-use Rattle.whole.proofs.Held.{back, Held, fits-code, held, held-nat, arg, known, wider, shl, plus, quot, divisor, quot-fits}
+use Rattle.whole.proofs.Held.{back, Held, fits-code, held, held-nat, arg, known, wider, shl, plus, quot, remainder, divisor, quot-fits}
 use Rattle.whole.proofs.Order.{abs-add, abs-mul}
 use Rattle.word.specs.Words.{withSign}
+use Rattle.word.specs.Exact.{exactQuotient}
 use Rattle.word.proofs.RoundedLaws.{divided-is}
+use Rattle.word.proofs.LooseLaws.{whole-none, whole-some, left-half, half-left}
 use Rattle.word.proofs.SignLaws.{below-read, below-scaled, sign-abs, differ}
 use Rattle.word.proofs.WordLaws.{scaled-most}
 use Rattle.word.proofs.quotient.Statement.{statement}
 use Rattle.word.proofs.quotient.Tie as tie
+
+not-true : (b : Bool) → (b ≡ true → ⊥) → b ≡ false
+not-true true f = absurd (f refl)
+not-true false f = refl
 
 -- ---- what the locals hold
 module _ (c : tie.Start) where
@@ -85,11 +91,36 @@ module _ (c : tie.After-with-sign) where
   held-quotient : Held w64 (quotZ (back w64 (back w64 (twice start) +ℤ back w64 (c .with-sign .result))) (back w64 (back w64 (back w32 (d start)) +ℤ back w64 (back w32 (d start))))) (quotZ (sum start) (d start +ℤ d start))
   held-quotient = quot held-sum (held-divisor start) (quot-fits (sum start) (d start +ℤ d start) (omega (arith, sum-most start)))
 
+  -- what is left over, and that the test tells whether it is the half alone
+  abbrev left : ℤ
+  left = remZ (sum start) (d start +ℤ d start)
+
+  held-left : Held w64 (remZ (back w64 (back w64 (twice start) +ℤ back w64 (c .with-sign .result))) (back w64 (back w64 (back w32 (d start)) +ℤ back w64 (back w32 (d start))))) left
+  held-left = remainder held-sum (held-divisor start)
+
+  same-left : ofZ w64 (remZ (back w64 (back w64 (twice start) +ℤ back w64 (c .with-sign .result))) (back w64 (back w64 (back w32 (d start)) +ℤ back w64 (back w32 (d start))))) ≡ ofZ w64 (c .with-sign .result) → left ≡ half start
+  same-left e = sym (held held-left) ∙ ap (toZ w64) e ∙ held held-half
+
+  left-same : left ≡ half start → ofZ w64 (remZ (back w64 (back w64 (twice start) +ℤ back w64 (c .with-sign .result))) (back w64 (back w64 (back w32 (d start)) +ℤ back w64 (back w32 (d start))))) ≡ ofZ w64 (c .with-sign .result)
+  left-same e = ap (ofZ w64) (held-left .eq ∙ e ∙ sym (held-half .eq))
+
 -- ---- the needs
-div-result : tie.Need-div-result
-div-result c =
+div-value : tie.Need-div-value
+div-value c =
     let s = start c in
     (divisor (held-divisor s) (omega (arith, size (v (d s) ⊕ v (d s)), size (v (d s)), s .pre .3)), fits-code (held-quotient c))
+
+returns : tie.Need-returns
+returns c =
+    let b = c .before in
+    let k = start b in
+    (held (held-quotient b) ∙ divided-is (m k) (d k), whole-none (k .args .s) ∙ sym (left-half (m k) (d k) (same-left b (c .if1 .taken))))
+
+returns-2 : tie.Need-returns-2
+returns-2 c =
+    let b = c .before in
+    let k = start b in
+    (held (held-quotient b) ∙ divided-is (m k) (d k), whole-some (k .args .s) (omega (arith, k .pre .0 .least)) ∙ sym (not-true (exactQuotient (k .args .s) (a k) (d k)) (λ e. c .if1 .left (left-same b (half-left (m k) (d k) (k .pre .3) e)))))
 
 pub quotient-spec : {M : Type 1} → statement M
 quotient-spec =
@@ -103,5 +134,7 @@ quotient-spec =
     (λ c. fits-code (held-twice (start c)))
     (λ c. fits-code (held-sum c))
     (λ c. fits-code (held-divisor (start c)))
-    div-result
-    (λ c. held (held-quotient c) ∙ divided-is (m (start c)) (d (start c))))
+    div-value
+    div-value
+    returns
+    returns-2)
