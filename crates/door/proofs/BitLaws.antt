@@ -1,5 +1,7 @@
 -- A double is read back from its bit pattern by the three fields, as the code takes them with shifts and masks: a shift divides, and a mask leaves the remainder.
-use Rattle.whole.proofs.Basics.{_≡_, _∙_, refl, sym, ap, ap₂, Bool, true, false, ℕ, _+_, _/_, _%_, _^_, _≤_, _<_, arith, T, eqb, leb, eq-eqb, ne-eqb}
+use Rattle.whole.proofs.Basics.{_≡_, _∙_, refl, sym, ap, ap₂, Bool, true, false, ℕ, _+_, _*_, _/_, _%_, _^_, _≤_, _<_, arith, T, eqb, leb, eqb-true, eqb-false, eq-eqb, ne-eqb}
+use lib.Arith.{digits-mod, mod-mul}
+use lib.Dec.{lit<}
 use lib.Bits.{bitAnd, bitOr, and-mask, mask-lt, or-shifted-r}
 use lib.Pow.{field}
 use lib.Ieee.{Float, binary64, hid, ofFields, ofBits, toBits, fits}
@@ -39,6 +41,22 @@ exponent-is b = field b 11 52 ∙ sym (and-mask (b / 2 ^ 52) 11)
 read-back : (x : Float) → T (fits binary64 x) → x ≡ ofFields binary64 (leb (2 ^ 63) (toBits binary64 x)) (toBits binary64 x % 2 ^ 63 / 2 ^ 52) (toBits binary64 x % 2 ^ 52)
 unfolding ofBits
 read-back x h = sym (ofBits-toBits binary64 x h)
+
+-- `b << 1`, which drops the sign, is 0 where the other two fields are
+without-sign : (b : ℕ) → b * 2 ^ 1 % 2 ^ 64 ≡ (exponent b * 2 ^ 52 + fraction b) * 2
+without-sign b =
+    let r = b % 2 ^ 63 in
+    let e : b * 2 ^ 1 ≡ b / 2 ^ 63 * 2 ^ 64 + r * 2 = omega arith in
+    ap (λ (k : ℕ). k % 2 ^ 64) e
+    ∙ digits-mod (b / 2 ^ 63) {m = 2 ^ 64} {r = r * 2} (omega arith)
+    ∙ ap (λ (k : ℕ). k * 2) (mod-mul b {m = 2 ^ 11} {c = 2 ^ 52} (lit< tt) (lit< tt) ∙ ap₂ (λ (k j : ℕ). k * 2 ^ 52 + j) (sym (and-mask (b / 2 ^ 52) 11)) (sym (and-mask b 52)))
+
+pub zero-bits : (b : ℕ) → eqb (exponent b + fraction b) 0 ≡ eqb (b * 2 ^ 1 % 2 ^ 64) 0
+zero-bits b = by (eqb (b * 2 ^ 1 % 2 ^ 64) 0) refl
+  where
+    by : (t : Bool) → eqb (b * 2 ^ 1 % 2 ^ 64) 0 ≡ t → eqb (exponent b + fraction b) 0 ≡ t
+    by true e = eq-eqb (exponent b + fraction b) 0 (omega (arith, without-sign b, eqb-true (b * 2 ^ 1 % 2 ^ 64) 0 e))
+    by false e = ne-eqb (exponent b + fraction b) 0 (λ k. eqb-false (b * 2 ^ 1 % 2 ^ 64) 0 e (without-sign b ∙ omega arith))
 
 pub fields-of : (x : Float) → T (fits binary64 x) → let b = toBits binary64 x in x ≡ ofFields binary64 (signBit b) (exponent b) (fraction b)
 fields-of x h =

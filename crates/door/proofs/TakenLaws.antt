@@ -1,6 +1,6 @@
 -- The laws of `takenOf`: it sees only a double's sign and value, and which sizes give 0 or no word. Both come from laws of rounding.
-use Rattle.whole.proofs.Basics.{_≡_, _∙_, refl, sym, ap, Bool, cond, ℕ, _+_, _*_, _≤_, _<_, arith, ℤ, pos, natAbs}
-use native.Mathlib.Nat.{mul-right-comm, lt-of-mul-lt-mul-right}
+use Rattle.whole.proofs.Basics.{_≡_, _∙_, refl, sym, ap, ap₂, Bool, true, false, cond, ℕ, _+_, _*_, _/_, _%_, _≤_, _<_, arith, ℤ, pos, natAbs, _*ℤ_, eqb-true, eqb-false, eq-eqb, ne-eqb}
+use native.Mathlib.Nat.{mul-right-comm, mul-mod-left, div-add-mod, eq-of-mul-eq-mul-right, lt-of-mul-lt-mul-right}
 use lib.Ieee.{Float, nan, inf, fin, up, down}
 use lib.Ieee.Fits.{down-pos}
 use lib.Ieee.Exact.{HasValue}
@@ -9,12 +9,17 @@ use Rattle.whole.proofs.Diff.{v, n, _⊗_, _⊝_, size}
 use Rattle.whole.proofs.Order.{abs-mul, abs-zero}
 use Rattle.word.specs.Rounded.{rounded}
 use Rattle.word.specs.Words.{largest, unit, withSign}
+use Rattle.word.specs.Exact.{divides}
 use Rattle.word.proofs.RoundedLaws.{rounded-near, rounded-same}
 use Rattle.word.proofs.SignLaws.{sign-mul}
+use Rattle.door.specs.declared.answer.Taken.{Taken}
 use Rattle.door.specs.declared.answer.Taken.the-variants.{Word, NoWord, NotFinite}
-use Rattle.door.specs.Taken.{argumentOf, asWord, takenOf}
+use Rattle.door.specs.Taken.{numerator, asWord, takenOf}
 
--- ---- the definition's three cases
+-- ---- the definition's three cases; a finite double's is that of a fraction m / d
+abbrev pub fromRatio : ℤ → ℕ → Taken
+fromRatio m d = asWord (rounded m d) (divides d m)
+
 pub taken-nan : (s : ℕ) → takenOf s nan ≡ NotFinite
 unfolding takenOf
 taken-nan s = refl
@@ -23,26 +28,45 @@ pub taken-inf : (s : ℕ) (t : Bool) → takenOf s (inf t) ≡ NotFinite
 unfolding takenOf
 taken-inf s t = refl
 
-taken-fin : (s : ℕ) (t : Bool) (m : ℕ) (e : ℤ) → takenOf s (fin t m e) ≡ asWord (argumentOf s t m e)
+pub taken-fin : (s : ℕ) (t : Bool) (m : ℕ) (e : ℤ) → takenOf s (fin t m e) ≡ fromRatio (numerator s t m e) (down e)
 unfolding takenOf
 taken-fin s t m e = refl
 
+-- ---- it sees only the fraction's value
+whole-too : (a d b c : ℕ) → 0 < d → a * c ≡ b * d → a % d ≡ 0 → b % c ≡ 0
+whole-too a d b c D e h =
+    let f : a ≡ d * (a / d) = omega (arith, div-add-mod a d) in
+    ap (λ (z : ℕ). z % c) (eq-of-mul-eq-mul-right d D b (a / d * c) (omega (arith, ap (λ (z : ℕ). z * c) f))) ∙ mul-mod-left (a / d) c
+
+divides-same : (m : ℤ) (d : ℕ) (k : ℤ) (c : ℕ) → 0 < d → 0 < c → m *ℤ pos c ≡ k *ℤ pos d → divides d m ≡ divides c k
+divides-same m d k c D C e = by (divides d m) refl
+  where
+    sizes : natAbs m * c ≡ natAbs k * d
+    sizes = sym (abs-mul m (pos c)) ∙ ap natAbs e ∙ abs-mul k (pos d)
+
+    by : (t : Bool) → divides d m ≡ t → t ≡ divides c k
+    by true h = sym (eq-eqb (natAbs k % c) 0 (whole-too (natAbs m) d (natAbs k) c D sizes (eqb-true (natAbs m % d) 0 h)))
+    by false h = sym (ne-eqb (natAbs k % c) 0 (λ w. eqb-false (natAbs m % d) 0 h (whole-too (natAbs k) c (natAbs m) d C (sym sizes) w)))
+
+pub ratio-same : (m : ℤ) (d : ℕ) (k : ℤ) (c : ℕ) → 0 < d → 0 < c → m *ℤ pos c ≡ k *ℤ pos d → fromRatio m d ≡ fromRatio k c
+ratio-same m d k c D C e = ap₂ asWord (rounded-same m d k c D C e) (divides-same m d k c D C e)
+
 -- ---- a double whose sign is t and whose size is a / c
-pub taken-value : (s : ℕ) (x : Float) (t : Bool) (a c : ℕ) → 0 < c → HasValue x t a c → takenOf s x ≡ asWord (rounded (withSign t (pos (a * unit s))) c)
+pub taken-value : (s : ℕ) (x : Float) (t : Bool) (a c : ℕ) → 0 < c → HasValue x t a c → takenOf s x ≡ fromRatio (withSign t (pos (a * unit s))) c
 taken-value s (fin u m e) t a c C h =
     taken-fin s u m e
-    ∙ ap (λ (b : Bool). asWord (rounded (withSign b (pos (m * up e * unit s))) (down e))) (h .0)
-    ∙ ap asWord (rounded-same (withSign t (pos (m * up e * unit s))) (down e) (withSign t (pos (a * unit s))) c (down-pos e) C
+    ∙ ap (λ (b : Bool). fromRatio (numerator s b m e) (down e)) (h .0)
+    ∙ ratio-same (numerator s t m e) (down e) (withSign t (pos (a * unit s))) c (down-pos e) C
     (sign-mul t (pos (m * up e * unit s)) c
     ∙ ap (λ (k : ℕ). withSign t (pos k)) (mul-right-comm (m * up e) (unit s) c ∙ ap (λ (z : ℕ). z * unit s) (h .1) ∙ mul-right-comm a (down e) (unit s))
-    ∙ sym (sign-mul t (pos (a * unit s)) (down e))))
+    ∙ sym (sign-mul t (pos (a * unit s)) (down e)))
 
 -- ---- words and other numbers
-pub as-word-yes : (z : ℤ) → natAbs z ≤ largest → asWord z ≡ Word z
-as-word-yes z h = ap (λ b. cond b (Word z) NoWord) (le-leb (natAbs z) largest h)
+pub as-word-yes : (z : ℤ) (exact : Bool) → natAbs z ≤ largest → asWord z exact ≡ Word z exact
+as-word-yes z exact h = ap (λ b. cond b (Word z exact) NoWord) (le-leb (natAbs z) largest h)
 
-pub as-word-no : (z : ℤ) → largest < natAbs z → asWord z ≡ NoWord
-as-word-no z h = ap (λ b. cond b (Word z) NoWord) (lt-leb (natAbs z) largest h)
+pub as-word-no : (z : ℤ) (exact : Bool) → largest < natAbs z → asWord z exact ≡ NoWord
+as-word-no z exact h = ap (λ b. cond b (Word z exact) NoWord) (lt-leb (natAbs z) largest h)
 
 -- |m| is at most |rounded m d| · d and half of d more, and the other way round
 apart : (m : ℤ) (d : ℕ) → 0 < d → (2 * (natAbs (rounded m d) * d) ≤ 2 * natAbs m + d) × (2 * natAbs m ≤ 2 * (natAbs (rounded m d) * d) + d)

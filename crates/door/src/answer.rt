@@ -1,8 +1,9 @@
 // What the door answers. (A type may not stand beside a function whose name differs only by case.)
 
-// The word taken from a double, or why none is. specs/Taken.antt gives the paper's number, place and word of each case.
+// The word taken from a double, with whether it is the double's own value, so that nothing was rounded; or why there is none.
+// specs/Taken.antt gives the paper's number, place, word and mark of each case.
 pub enum Taken {
-    Word(i32),
+    Word(i32, bool),
     NoWord,
     NotFinite,
 }

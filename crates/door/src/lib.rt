@@ -14,21 +14,21 @@ const LARGEST: i64 = word::LARGEST as i64;
 
 const LEAST: i64 = -LARGEST;
 
-// The number z, if it is a word.
-fn as_word(z: i64) -> Taken
-    ensures { λ r. ⌜ r ≡ asWord z ⌝ }
+// The number z with its mark, if it is a word.
+fn as_word(z: i64, exact: bool) -> Taken
+    ensures { λ r. ⌜ r ≡ asWord z exact ⌝ }
 {
     if z < LEAST || LARGEST < z {
         Taken::NoWord
     } else {
-        Taken::Word(z as i32)
+        Taken::Word(z as i32, exact)
     }
 }
 
-// A double's value times 2^s, rounded to a word; or why there is none.
+// A double's value times 2^s, rounded to a word, and whether nothing was rounded; or why there is no word.
 // A double with the exponent field f has 53 digits, counted in units of 2^(f - 1075); that is 2^(e - 1075) steps, with e = f + s.
 // From e = 1075 on it is 2^52 steps or more. Below e = 1022 it is less than half a step: zeros and subnormal doubles,
-// which have no leading digit, are among these.
+// which have no leading digit, are among these. Of them a zero alone, all of whose bits but the sign are 0, is a whole number of steps.
 pub fn taken(x: f64, s: u32) -> Taken
     requires { ⌜ Scale s ⌝ }
     ensures { λ r. ⌜ r ≡ takenOf s x ⌝ }
@@ -48,10 +48,12 @@ pub fn taken(x: f64, s: u32) -> Taken
         return Taken::NoWord;
     }
     if e < 1022 {
-        return Taken::Word(0);
+        return Taken::Word(0, b << 1 == 0);
     }
     let n = word::with_sign(sign, (fraction | 0x10_0000_0000_0000) as i64);
-    as_word(word::rounded_shift(n, 1075 - e))
+    let cut = 1075 - e;
+    let r = word::rounded_shift(n, cut);
+    as_word(r.value, word::is_whole(r.loose, cut))
 }
 
 // A word as a double, w / 2^s; zero as plus zero. Both numbers are doubles, and so is their quotient: nothing is rounded.

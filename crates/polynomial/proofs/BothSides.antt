@@ -1,11 +1,15 @@
--- An odd polynomial answers at -x exactly the negated answer, and an even one the same. The walk carries both at once, since an odd
--- polynomial without c0, a power lower, is even, and an even one odd.
-use Rattle.whole.proofs.Basics.{_≡_, _∙_, refl, ap, List, [], _∷_, ℕ, suc, _+_, arith, ℤ, pos, negℤ, _+ℤ_}
+-- An odd polynomial answers at -x exactly the negated answer, and an even one the same; the mark is the same for both. The walk carries both at once,
+-- since an odd polynomial without c0, a power lower, is even, and an even one odd. A mark is told by sizes, and those of the walk are the same.
+use Rattle.whole.proofs.Basics.{_≡_, _∙_, refl, ap, ap₂, _⊎_, inl, inr, List, [], _∷_, ℕ, suc, _+_, arith, ℤ, pos, negℤ, natAbs, _+ℤ_}
+use mathlib.Core.Bool.{_&&_}
 use lib.ListN.{getD}
+use Rattle.whole.proofs.Order.{abs-neg}
 use Rattle.word.specs.Words.{productOf}
 use Rattle.word.proofs.SignLaws.{sign-behind-zero}
 use Rattle.word.proofs.WordLaws.{product-odd-right, product-same}
+use Rattle.word.proofs.ExactLaws.{product-sizes}
 use Rattle.polynomial.specs.Polynomial.{horner}
+use Rattle.polynomial.specs.Exact.{polynomialExact}
 use Rattle.polynomial.specs.Parity.{OddPowers, EvenPowers}
 
 -- what is left without c0, a power lower
@@ -34,3 +38,19 @@ polynomial-negated s ws x = both s ws x .0
 
 pub polynomial-same : (s : ℕ) (ws : List ℤ) (x : ℤ) → EvenPowers ws → horner s ws (negℤ x) ≡ horner s ws x
 polynomial-same s ws x = both s ws x .1
+
+-- ---- the mark
+pub polynomial-size : (s : ℕ) (ws : List ℤ) (x : ℤ) → OddPowers ws ⊎ EvenPowers ws → natAbs (horner s ws (negℤ x)) ≡ natAbs (horner s ws x)
+polynomial-size s ws x (inl h) = ap natAbs (polynomial-negated s ws x h) ∙ abs-neg (horner s ws x)
+polynomial-size s ws x (inr h) = ap natAbs (polynomial-same s ws x h)
+
+rest : (c : ℤ) (cs : List ℤ) → OddPowers (c ∷ cs) ⊎ EvenPowers (c ∷ cs) → OddPowers cs ⊎ EvenPowers cs
+rest c cs (inl h) = inr (odd-rest c cs h)
+rest c cs (inr h) = inl (even-rest c cs h)
+
+pub polynomial-mark : (s : ℕ) (ws : List ℤ) (x : ℤ) → OddPowers ws ⊎ EvenPowers ws → polynomialExact s ws (negℤ x) ≡ polynomialExact s ws x
+unfolding polynomialExact
+polynomial-mark s [] x h = refl
+polynomial-mark s (c ∷ cs) x h =
+    let r = rest c cs h in
+    ap₂ _&&_ (polynomial-mark s cs x r) (product-sizes s (horner s cs (negℤ x)) (negℤ x) (horner s cs x) x (polynomial-size s cs x r) (abs-neg x))

@@ -2,9 +2,12 @@
 // lowest power first.
 ghost use mathlib.Core.Path.{_≡_};
 ghost use Rattle.word.specs.Words.{Scale};
+ghost use Rattle.word.specs.Exact.{wholeAt};
 ghost use Rattle.stored.specs.Words.{words, Stretch};
 ghost use Rattle.polynomial.specs.Polynomial.{horner, boundOf, polynomialAdmission, PolynomialReady};
+ghost use Rattle.polynomial.specs.Exact.{polynomialExact};
 use admission::Admission;
+use word::Marked;
 
 // B_0 of a polynomial, or that some B on the way to it is above the largest word.
 pub enum Bounding {
@@ -12,17 +15,24 @@ pub enum Bounding {
     Beyond,
 }
 
-pub fn answer(b: &[u8], at: usize, m: usize, x: i32, s: u32) -> i32
+pub fn answer(b: &[u8], at: usize, m: usize, x: i32, s: u32) -> Marked
     requires { ⌜ Stretch (now b) at m × PolynomialReady s (words (now b) at m) x ⌝ }
-    ensures { λ r. ⌜ r ≡ horner s (words (now (b .entry)) at m) x ⌝ }
+    ensures word { λ r. ⌜ r .word ≡ horner s (words (now (b .entry)) at m) x ⌝ }
+    ensures mark { λ r. ⌜ wholeAt s (r .loose) ≡ polynomialExact s (words (now (b .entry)) at m) x ⌝ }
 {
     let mut i = m - 1;
     let mut running = stored::get_word(b, at + 4 * i);
+    let mut loose = 0u64;
     while i > 0 {
         i -= 1;
-        running = ((stored::get_word(b, at + 4 * i) as i64) + word::product(running, x, s)) as i32;
+        let p = word::product(running, x, s);
+        running = ((stored::get_word(b, at + 4 * i) as i64) + p.value) as i32;
+        loose = loose | p.loose;
     }
-    running
+    Marked {
+        word: running,
+        loose,
+    }
 }
 
 // `most` is the larger of |lo| and |hi|. A pattern that is no word is above the largest one, so that it is Beyond.

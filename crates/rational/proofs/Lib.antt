@@ -1,4 +1,5 @@
--- Laws of rational formulas. `StaysInRange` and `BothSides` hold promises.
+-- Laws of rational formulas. `StaysInRange`, `ExactAnswer` and `BothSides` hold promises.
 pub mod AdmissionSteps
 pub mod StaysInRange
+pub mod ExactAnswer
 pub mod BothSides

@@ -1,2 +1,3 @@
--- Rational formulas.
+-- Rational formulas: the answer, its mark, and admission.
 pub mod Rational
+pub mod Exact

@@ -2,18 +2,25 @@
 ghost use mathlib.Core.Path.{_≡_};
 ghost use Prim.Native.Nat.{_+_, _*_, _<_, _≤_};
 ghost use Rattle.word.specs.Words.{Scale, largest};
+ghost use Rattle.word.specs.Exact.{wholeAt};
 ghost use Rattle.stored.specs.Words.{words, Stretch};
 ghost use Rattle.rational.specs.Rational.{rationalOf, rationalAdmission, ratioAdmission, RationalReady};
+ghost use Rattle.rational.specs.Exact.{rationalExact};
 use admission::Admission;
 use polynomial::Bounding;
+use word::Marked;
 
-pub fn answer(b: &[u8], at: usize, p: usize, q: usize, x: i32, s: u32) -> i32
+pub fn answer(b: &[u8], at: usize, p: usize, q: usize, x: i32, s: u32) -> Marked
     requires { ⌜ Stretch (now b) at (p + q) × RationalReady s (words (now b) at p) (words (now b) (at + 4 * p) q) x ⌝ }
-    ensures { λ r. ⌜ r ≡ rationalOf s (words (now (b .entry)) at p) (words (now (b .entry)) (at + 4 * p) q) x ⌝ }
+    ensures word { λ r. ⌜ r .word ≡ rationalOf s (words (now (b .entry)) at p) (words (now (b .entry)) (at + 4 * p) q) x ⌝ }
+    ensures mark { λ r. ⌜ wholeAt s (r .loose) ≡ rationalExact s (words (now (b .entry)) at p) (words (now (b .entry)) (at + 4 * p) q) x ⌝ }
 {
     let n = polynomial::answer(b, at, p, x, s);
     let d = polynomial::answer(b, at + 4 * p, q, x, s);
-    word::quotient(n, d, s) as i32
+    let r = word::quotient(n.word, d.word, s);
+    let word = r.value as i32;
+    let loose = n.loose | d.loose | r.loose;
+    Marked { word, loose }
 }
 
 // The tests after the bounds: `top` is the numerator's B_0, `first` is |d0| and `rest` the divisor's B_1.

@@ -1,10 +1,11 @@
--- The laws of the root: its two inequalities, which each digit of the definition keeps, that they determine it, and that it is the largest.
-use Rattle.whole.proofs.Basics.{_≡_, refl, Bool, true, false, cond, ℕ, suc, zero, _+_, _*_, _/_, _^_, _≤_, _<_, arith, leb, ℤ, natAbs}
+-- The laws of the root: its two inequalities, which each digit of the definition keeps, that they determine it, that it is the largest, and when it is
+-- exact.
+use Rattle.whole.proofs.Basics.{_≡_, _∙_, refl, sym, ap, Bool, true, false, cond, ℕ, suc, zero, _+_, _*_, _/_, _^_, _≤_, _<_, arith, leb, ℤ, natAbs, eqb-true, eq-eqb}
 use native.Mathlib.Nat.{mul-le-mul}
 use native.Mathlib.Decide.{decLe}
 use borrow.Author.Tests.{leb-true, leb-false}
 use Rattle.word.specs.Words.{Word, unit}
-use Rattle.root.specs.Root.{RootOf, rootIn, rootOf, Rootable, rootWord}
+use Rattle.root.specs.Root.{RootOf, rootIn, rootOf, Rootable, rootWord, exactRoot}
 use Rattle.word.proofs.WordLaws.{scaled-most}
 
 pub square-lt : (a b : ℕ) → a * a < b * b → a < b
@@ -43,3 +44,13 @@ root-most v h = square-lt (rootOf v) (2 ^ 30) (omega (arith, root-of v .low))
 
 pub root-word : (s : ℕ) (x : ℤ) → Rootable s x → Word (rootWord s x)
 root-word s x r = omega (arith, root-most (natAbs x * unit s) (scaled-most (natAbs x) s (omega (arith, r .1)) (r .0 .most)))
+
+-- ---- exact: marked so, its square is the scaled word, and where a whole number's square is, it is marked so
+pub root-exact : (s : ℕ) (x : ℤ) → exactRoot s x ≡ true → rootOf (natAbs x * unit s) * rootOf (natAbs x * unit s) ≡ natAbs x * unit s
+root-exact s x e = let v = natAbs x * unit s in eqb-true (rootOf v * rootOf v) v e
+
+pub exact-root : (s : ℕ) (x : ℤ) (r : ℕ) → r * r ≡ natAbs x * unit s → exactRoot s x ≡ true
+exact-root s x r e =
+    let v = natAbs x * unit s in
+    let f : r ≡ rootOf v = root-is v r (omega (arith, e)) (omega (arith, e)) in
+    eq-eqb (rootOf v * rootOf v) v (ap (λ (k : ℕ). k * k) (sym f) ∙ e)

@@ -1,8 +1,8 @@
 -- The root of a word: the largest whole r with r² not above x·2^s.
 use mathlib.Core.Path.{_≡_, refl}
-use mathlib.Core.Bool.{cond}
+use mathlib.Core.Bool.{Bool, true, false, cond}
 use Prim.Native.Nat.{ℕ, zero, suc, _+_, _*_, _/_, _<_, _≤_}
-use lib.Dec.{leb, lit≤}
+use lib.Dec.{eqb, leb, lit≤}
 use lib.IntN.{ℤ, pos, negsuc, natAbs}
 use lib.Signed.{_≤ℤ_, leZ-yes}
 use Rattle.word.specs.Words.{Word, Scale, unit}
@@ -28,6 +28,10 @@ rootOf v = rootIn v v
 
 abbrev pub rootWord : ℕ → ℤ → ℤ
 rootWord s x = pos (rootOf (natAbs x * unit s))
+
+-- a root is exact where its square is x·2^s
+abbrev pub exactRoot : ℕ → ℤ → Bool
+exactRoot s x = eqb (rootOf (natAbs x * unit s) * rootOf (natAbs x * unit s)) (natAbs x * unit s)
 
 -- ---- what the function asks of its callers
 abbrev pub Rootable : ℕ → ℤ → Type 0
@@ -62,3 +66,17 @@ rootable = (
 -- a digit more to the root of 2, for 8 and for 9
 a-digit : (digitMore 8 1 ≡ 2) × (digitMore 9 1 ≡ 3)
 a-digit = (refl, refl)
+
+-- exact: the root of two and a quarter, which is one and a half, of 0, and of one step, whose scaled word is 4096 times itself; and rounded: of two and a
+-- quarter a step less and a step more, and of two. At 17 places a step is no square, at 28 it is
+exact-roots :
+    (exactRoot 24 (pos 37748736) ≡ true)
+    × (exactRoot 24 (pos 0) ≡ true)
+    × (exactRoot 24 (pos 1) ≡ true)
+    × (exactRoot 24 (pos 37748735) ≡ false)
+    × (exactRoot 24 (pos 37748737) ≡ false)
+    × (exactRoot 24 (pos 33554432) ≡ false)
+    × (exactRoot 17 (pos 1) ≡ false)
+    × (exactRoot 28 (pos 1) ≡ true)
+unfolding rootIn
+exact-roots = (refl, refl, refl, refl, refl, refl, refl, refl)

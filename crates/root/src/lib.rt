@@ -1,13 +1,20 @@
-// The root of a word at s binary places, by Heron's rule, and the number of its steps.
+// The root of a word at s binary places, by Heron's rule, the number of its steps, and whether it is exact.
 ghost use mathlib.Core.Path.{_≡_};
 ghost use Prim.Native.Nat.{_<_, _^_};
-ghost use Rattle.root.specs.Root.{Rootable};
-ghost use Rattle.root.specs.Heron.{start, next, heronOf, rootedBy};
+ghost use Rattle.root.specs.Root.{Rootable, exactRoot};
+ghost use Rattle.root.specs.Heron.{start, next, rooted, heronOf, rootedBy};
 
 // A root, and the steps of Heron's rule to it, the last one included.
 pub struct Rooted {
     pub root: u64,
     pub steps: u16,
+}
+
+// The same of a word, and whether its square is the scaled word.
+pub struct MarkedRoot {
+    pub root: u32,
+    pub steps: u16,
+    pub exact: bool,
 }
 
 // The first step of Heron's rule, from w = 2^half, where `half` is half the number of v's binary digits, rounded up. To divide by w is to shift.
@@ -44,10 +51,18 @@ fn heron(v: u64) -> Rooted
     }
 }
 
-// The root of x at s binary places, and its steps: v is x·2^s.
-pub fn root(x: i32, s: u32) -> Rooted
+// The root of x at s binary places, with its steps and its mark: v is x·2^s.
+pub fn root(x: i32, s: u32) -> MarkedRoot
     requires { ⌜ Rootable s x ⌝ }
-    ensures { λ r. ⌜ r ≡ rootedBy s x ⌝ }
+    ensures rooted { λ r. ⌜ rooted (r .root) (r .steps) ≡ rootedBy s x ⌝ }
+    ensures mark { λ r. ⌜ r .exact ≡ exactRoot s x ⌝ }
 {
-    heron(word::scaled(x as u32, s))
+    let v = word::scaled(x as u32, s);
+    let r = heron(v);
+    let root = r.root as u32;
+    MarkedRoot {
+        root,
+        steps: r.steps,
+        exact: word::multiply::long_times(root, root) == v,
+    }
 }

@@ -38,16 +38,18 @@ inside c =
     (λ p. abs-le z largest (tested-ge held-z (lit (negℤ (pos largest)) tt) (p .0 .left)) (tested-ge (lit (pos largest) tt) held-z (sym (p .1) ∙ c .if2 .left)))
     (c .before .if1 .came)
 
-cast-t5 : tie.Need-cast-t5
-cast-t5 c = fits-code (cast {w′ = w32} (arg (c .before .before .fits .z)) (fit-abs (omega (arith, inside c))))
+cast-t6 : tie.Need-cast-t6
+cast-t6 c = fits-code (cast {w′ = w32} (arg (c .before .before .fits .z)) (fit-abs (omega (arith, inside c))))
 
 returns : tie.Need-returns
-returns c = sym (as-word-no (c .before .before .args .z) (outside c))
+returns c =
+    let d = c .before .before .args in
+    sym (as-word-no (d .z) (d .exact) (outside c))
 
 returns-2 : tie.Need-returns-2
 returns-2 c =
-    let z = c .before .before .args .z in
-    ap Word (held (cast {w′ = w32} (arg (c .before .before .fits .z)) (fit-abs (omega (arith, inside c))))) ∙ sym (as-word-yes z (inside c))
+    let d = c .before .before .args in
+    ap (λ (z : ℤ). Word z (d .exact)) (held (cast {w′ = w32} (arg (c .before .before .fits .z)) (fit-abs (omega (arith, inside c))))) ∙ sym (as-word-yes (d .z) (d .exact) (inside c))
 
 pub as-word-spec : {M : Type 1} → statement M
-as-word-spec = tie.close (tie.spec cast-t5 returns returns-2)
+as-word-spec = tie.close (tie.spec cast-t6 returns returns-2)

@@ -1,20 +1,20 @@
 -- `door::taken` meets its contract: x is read back from the fields that the code takes, and each return is a law of `FieldLaws` at them.
-use Rattle.whole.proofs.Basics.{_≡_, _∙_, sym, ap, subst, false, not, ℕ, _+_, _-_, _^_, arith, T, ℤ, pos, natAbs, w64, needs}
+use Rattle.whole.proofs.Basics.{_≡_, _∙_, sym, ap, ap₂, subst, false, not, ℕ, _+_, _-_, _^_, arith, T, ℤ, pos, natAbs, w64, SFits, needs}
 use mathlib.Core.Bool.{true≢false}
 use lib.Bits.{bitOr}
 use lib.Ieee.{Float, nan, inf, fin, binary64, fits, isNan, ne, hid, toBits, ofFields}
 use lib.Ieee.Compare.{differs-from-itself}
 use Rattle.whole.proofs.Diff.{n}
 use Rattle.whole.proofs.Fit.{fit}
-use Rattle.whole.proofs.Held.{back, Held, fits-code, held, held-nat, given, known}
-use Rattle.word.specs.Rounded.{rounded}
+use Rattle.whole.proofs.Held.{back, Held, fits-code, held, held-nat, arg, given, known}
 use Rattle.word.specs.Words.{withSign}
 use Rattle.word.proofs.SignLaws.{sign-abs}
 use Rattle.door.specs.declared.answer.Taken.{Taken}
+use Rattle.door.specs.declared.answer.Taken.the-variants.{Word}
 use Rattle.door.specs.Taken.{asWord, takenOf}
-use Rattle.door.proofs.TakenLaws.{taken-nan}
+use Rattle.door.proofs.TakenLaws.{fromRatio, taken-nan}
 use Rattle.door.proofs.FieldLaws.{field-ones, field-high, field-low, field-mid}
-use Rattle.door.proofs.BitLaws.{signBit, exponent, fraction, exponent-most, fraction-most, leading-digit, fields-of}
+use Rattle.door.proofs.BitLaws.{signBit, exponent, fraction, exponent-most, fraction-most, leading-digit, zero-bits, fields-of}
 use Rattle.door.proofs.taken.Statement.{statement}
 use Rattle.door.proofs.taken.Tie as tie
 
@@ -65,7 +65,8 @@ returns-3 c =
 returns-4 : tie.Need-returns-4
 returns-4 c =
     let d = c .before .before .before .before in
-    by-fields d _ (field-low (s d) (signBit (b d)) (exponent (b d)) (fraction (b d)) (d .pre .most) (fraction-most (b d)) (omega (arith, c .if4 .taken)))
+    by-fields d _
+    (field-low (s d) (signBit (b d)) (exponent (b d)) (fraction (b d)) (d .pre .most) (fraction-most (b d)) (omega (arith, c .if4 .taken)) ∙ ap (Word (pos 0)) (zero-bits (b d)))
 
 cast-with-sign : tie.Need-cast-with-sign
 cast-with-sign c = fits-code (held-digits (c .before .before .before .before))
@@ -89,13 +90,22 @@ rounded-shift-requires c κs =
       omega (arith, c .before .if4 .left),
     )
 
+is-whole-requires : tie.Need-is-whole-requires
+is-whole-requires c κs = omega (arith, c .before .before .if4 .left)
+
+value-fits : (c : tie.After-struct-told) → SFits w64 (c .before .before .rounded-shift .result .value)
+value-fits c = search (needs, c .struct-told .given)
+
 returns-5 : tie.Need-returns-5
 returns-5 c =
-    let k = c .before .before in
+    let r = c .before .before .before in
+    let k = r .before in
     let d = k .before .before .before .before .before in
+    let cut = 1075 - (exponent (b d) + s d) in
     by-fields d _
     (field-mid (s d) (signBit (b d)) (exponent (b d)) (fraction (b d)) (d .pre .most) (omega (arith, k .before .if4 .left)) (omega (arith, k .before .before .if3 .left))
-    ∙ sym (c .as-word .ensures ∙ ap asWord (held (given {w = w64} (c .before .rounded-shift .ok)) ∙ c .before .rounded-shift .ensures ∙ ap (λ (z : ℤ). rounded z (2 ^ (1075 - (exponent (b d) + s d)))) (n-is k))))
+    ∙ ap (λ (z : ℤ). fromRatio z (2 ^ cut)) (sym (n-is k))
+    ∙ sym (c .as-word .ensures ∙ ap₂ asWord (held (arg (value-fits (c .before))) ∙ r .rounded-shift .ensures .0) (c .before .before .is-whole .ensures ∙ r .rounded-shift .ensures .1)))
 
 pub taken-spec : {M : Type 1} → statement M
 taken-spec =
@@ -112,5 +122,6 @@ taken-spec =
     with-sign-requires
     (λ c. search needs)
     rounded-shift-requires
+    is-whole-requires
     (λ c κs. search needs)
     returns-5)

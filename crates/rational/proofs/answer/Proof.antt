@@ -1,12 +1,18 @@
--- `rational::answer` meets its contract: both polynomials are ready, and the quotient is a word.
-use Rattle.whole.proofs.Basics.{_∙_, sym, ap, ap₂, subst, List, ℕ, _+_, _*_, arith, ℤ, natAbs, w32, w64, needs}
+-- `rational::answer` meets its contract: both polynomials are ready, the quotient is a word, and the three marks are joined.
+use Rattle.whole.proofs.Basics.{_≡_, _∙_, sym, ap, ap₂, subst, List, ℕ, _+_, _*_, arith, ℤ, natAbs, w32, w64, needs}
+use mathlib.Core.Bool.{_&&_}
+use lib.Bits.{bitOr}
 use Rattle.whole.proofs.Fit.{fit-abs}
 use Rattle.whole.proofs.Held.{back, Held, fits-code, held, arg, known, cast}
 use Rattle.word.specs.Words.{Word, NotZero, quotientOf}
+use Rattle.word.specs.Exact.{exactQuotient, wholeAt}
+use Rattle.word.proofs.LooseLaws.{or-whole}
 use Rattle.stored.specs.Words.{words}
 use Rattle.polynomial.specs.Polynomial.{horner, InRange}
+use Rattle.polynomial.specs.Exact.{polynomialExact}
 use Rattle.polynomial.proofs.WalkLaws.{running-word}
 use Rattle.rational.specs.Rational.{rationalOf}
+use Rattle.rational.specs.Exact.{rationalExact}
 use Rattle.rational.proofs.StaysInRange.{RationalStays, rational-stays}
 use Rattle.rational.proofs.answer.Statement.{statement}
 use Rattle.rational.proofs.answer.Tie as tie
@@ -37,26 +43,47 @@ module _ (d : tie.Start) where
   bottom-word = running-word S den x (stays .bottom-range) 0
 
 module _ (c : tie.After-answer) where
-  top-held : Held w32 (c .answer .result) (horner (S (c .before .before)) (num (c .before .before)) (x (c .before .before)))
-  top-held =
-      let d = c .before .before in
-      known (c .answer .ensures ∙ ap (λ (z : ℤ). horner (S d) (num d) z) (held (x-held d))) (fit-abs (omega (arith, top-word d)))
+  abbrev first : tie.Start
+  first = c .before .before
+
+  top-held : Held w32 (c .answer .result .word) (horner (S first) (num first) (x first))
+  top-held = known (c .answer .ensures .0 ∙ ap (horner (S first) (num first)) (held (x-held first))) (fit-abs (omega (arith, top-word first)))
+
+  top-mark : wholeAt (S first) (c .answer .result .loose) ≡ polynomialExact (S first) (num first) (x first)
+  top-mark = c .answer .ensures .1 ∙ ap (polynomialExact (S first) (num first)) (held (x-held first))
 
 module _ (c : tie.After-answer2) where
-  bottom-held : Held w32 (c .answer2 .result) (horner (S (c .before .before .before)) (den (c .before .before .before)) (x (c .before .before .before)))
-  bottom-held =
-      let d = c .before .before .before in
-      known (c .answer2 .ensures ∙ ap (λ (z : ℤ). horner (S d) (den d) z) (held (x-held d))) (fit-abs (omega (arith, bottom-word d)))
+  abbrev second : tie.Start
+  second = c .before .before .before
+
+  bottom-held : Held w32 (c .answer2 .result .word) (horner (S second) (den second) (x second))
+  bottom-held = known (c .answer2 .ensures .0 ∙ ap (horner (S second) (den second)) (held (x-held second))) (fit-abs (omega (arith, bottom-word second)))
+
+  bottom-mark : wholeAt (S second) (c .answer2 .result .loose) ≡ polynomialExact (S second) (den second) (x second)
+  bottom-mark = c .answer2 .ensures .1 ∙ ap (polynomialExact (S second) (den second)) (held (x-held second))
 
 module _ (c : tie.After-quotient) where
+  abbrev two : tie.After-answer2
+  two = c .before .before .before
+
   abbrev start : tie.Start
-  start = c .before .before .before .before
+  start = second two
 
-  ratio-held : Held w64 (c .quotient .result) (rationalOf (S start) (num start) (den start) (x start))
-  ratio-held = known (c .quotient .ensures ∙ ap₂ (quotientOf (S start)) (held (top-held (c .before .before))) (held (bottom-held (c .before)))) (fit-abs (omega (arith, stays start .answer)))
+  ratio-held : Held w64 (c .quotient .result .value) (rationalOf (S start) (num start) (den start) (x start))
+  ratio-held = known (c .quotient .ensures .0 ∙ ap₂ (quotientOf (S start)) (held (top-held (two .before))) (held (bottom-held two))) (fit-abs (omega (arith, stays start .answer)))
 
-  answer-held : Held w32 (back w64 (c .quotient .result)) (rationalOf (S start) (num start) (den start) (x start))
+  answer-held : Held w32 (back w64 (c .quotient .result .value)) (rationalOf (S start) (num start) (den start) (x start))
   answer-held = cast ratio-held (fit-abs (omega (arith, stays start .answer)))
+
+  abbrev loose : ℕ
+  loose = bitOr (two .before .answer .result .loose) (two .answer2 .result .loose)
+
+  mark : wholeAt (S start) (bitOr loose (c .quotient .result .loose)) ≡ rationalExact (S start) (num start) (den start) (x start)
+  mark =
+      or-whole (S start) loose (c .quotient .result .loose)
+      ∙ ap₂ _&&_
+          (or-whole (S start) (two .before .answer .result .loose) (two .answer2 .result .loose) ∙ ap₂ _&&_ (top-mark (two .before)) (bottom-mark two))
+          (c .quotient .ensures .1 ∙ ap₂ (exactQuotient (S start)) (held (top-held (two .before))) (held (bottom-held two)))
 
 answer-requires : tie.Need-answer-requires
 answer-requires c κs =
@@ -72,15 +99,16 @@ answer-requires-2 c κs =
 
 quotient-requires : tie.Need-quotient-requires
 quotient-requires c κs =
-    let d = c .before .before .before in
-    let e = sym (held (bottom-held c)) in
-    (d .pre .1 .0, subst Word (sym (held (top-held (c .before)))) (top-word d), subst Word e (bottom-word d), subst NotZero e (stays d .apart))
+    let t = c .before .before in
+    let d = second t in
+    let e = sym (held (bottom-held t)) in
+    (d .pre .1 .0, subst Word (sym (held (top-held (t .before)))) (top-word d), subst Word e (bottom-word d), subst NotZero e (stays d .apart))
 
-cast-result : tie.Need-cast-result
-cast-result c = fits-code (answer-held c)
+cast-word : tie.Need-cast-word
+cast-word c = fits-code (answer-held (c .before .before))
 
 returns : tie.Need-returns
-returns c = held (answer-held c)
+returns c = let q = c .before .before .before .before .before in (held (answer-held q), mark q)
 
 pub answer-spec : {M : Type 1} → statement M
 answer-spec =
@@ -91,5 +119,5 @@ answer-spec =
     (λ c. search needs)
     answer-requires-2
     quotient-requires
-    cast-result
+    cast-word
     returns)

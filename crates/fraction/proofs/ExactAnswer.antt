@@ -1,0 +1,89 @@
+-- A fraction's answer that is marked exact is the fraction's exact value: where w is y/o, t is p/q, and the product and the quotient of a step
+-- are exact, so is what the step gives, as b + a·(y/o)/(p/q); so it goes from b_k outward.
+use Rattle.whole.proofs.Basics.{_≡_, _∙_, sym, ap, subst, true, List, [], _∷_, ℕ, suc, zero, _<_, arith, ltb, ℤ, pos, _+ℤ_, _*ℤ_, lt-ltb}
+use native.Mathlib.Nat.{mul-le-mul}
+use Rattle.whole.proofs.Diff.{v, n, _⊗_, same}
+use Rattle.whole.proofs.Order.{abs-mul}
+use Rattle.whole.proofs.Ring.{ring, var, _:+_, _:*_}
+use Rattle.word.specs.Words.{NotZero, unit, productOf, quotientOf}
+use Rattle.word.specs.Exact.{exactProduct, exactQuotient}
+use Rattle.word.specs.Lists.{All}
+use Rattle.word.proofs.WordLaws.{unit-pos}
+use Rattle.word.proofs.ExactLaws.{product-exact, quotient-exact, both}
+use Rattle.fraction.specs.Fraction.{bAt, aAfter, at, firstOf, restOf, nextOf, outward, fractionOf, outwardDivisors, fractionDivisors}
+use Rattle.fraction.specs.Exact.{stepExact, outwardExact, squareExact, fractionExact, Ratio, whole, square, nextRatio, outwardRatio, fractionRatio, Equals}
+
+not-zero-times : (a b : ℤ) → NotZero a → NotZero b → NotZero (a *ℤ b)
+not-zero-times a b f g = omega (arith, abs-mul a b, mul-le-mul f g)
+
+-- ---- one step, by three identities
+shared : (b z o p : ℤ) → (b +ℤ z) *ℤ (o *ℤ p) ≡ b *ℤ (o *ℤ p) +ℤ z *ℤ (o *ℤ p)
+shared b z o p = ring (b ∷ z ∷ o ∷ p ∷ []) ((var 0 :+ var 1) :* (var 2 :* var 3)) (var 0 :* (var 2 :* var 3) :+ var 1 :* (var 2 :* var 3)) tt
+
+turned : (z t o q : ℤ) → z *ℤ (o *ℤ (t *ℤ q)) ≡ z *ℤ t *ℤ (o *ℤ q)
+turned z t o q = ring (z ∷ t ∷ o ∷ q ∷ []) (var 0 :* (var 2 :* (var 1 :* var 3))) (var 0 :* var 1 :* (var 2 :* var 3)) tt
+
+joined : (a w o q : ℤ) → a *ℤ w *ℤ (o *ℤ q) ≡ a *ℤ (w *ℤ o *ℤ q)
+joined a w o q = ring (a ∷ w ∷ o ∷ q ∷ []) (var 0 :* var 1 :* (var 2 :* var 3)) (var 0 :* (var 1 :* var 2 :* var 3)) tt
+
+-- w is y/o, t is p/q, and the product g of a and w and the quotient z of g by t are exact
+module _ (a b w t g z y o p q : ℤ) (u : ℕ) (ew : w *ℤ o ≡ y) (et : t *ℤ q ≡ p) (eg : g *ℤ pos u ≡ a *ℤ w) (ez : z *ℤ t ≡ g *ℤ pos u) where
+  quotient-is : z *ℤ (o *ℤ p) ≡ a *ℤ (y *ℤ q)
+  quotient-is =
+      ap (λ (k : ℤ). z *ℤ (o *ℤ k)) (sym et)
+      ∙ turned z t o q
+      ∙ ap (λ (k : ℤ). k *ℤ (o *ℤ q)) (ez ∙ eg)
+      ∙ joined a w o q
+      ∙ ap (λ (k : ℤ). a *ℤ (k *ℤ q)) ew
+
+  sum-is : (b +ℤ z) *ℤ (o *ℤ p) ≡ b *ℤ (o *ℤ p) +ℤ a *ℤ (y *ℤ q)
+  sum-is = shared b z o p ∙ ap (λ (k : ℤ). b *ℤ (o *ℤ p) +ℤ k) quotient-is
+
+top-apart : (t : ℤ) (r : Ratio) → NotZero t → Equals t r → NotZero (r .top)
+top-apart t r f e = subst NotZero (e .0) (not-zero-times t (r .bottom) f (e .1))
+
+next-equals : (s : ℕ) (a b w t : ℤ) (y r : Ratio) → stepExact s a w t ≡ true → NotZero t → Equals w y → Equals t r → Equals (nextOf s a b w t) (nextRatio a b y r)
+next-equals s a b w t y r m f ew et =
+    let g = productOf s a w in
+    let e = both (exactProduct s a w) (exactQuotient s g t) m in
+    (sum-is a b w t g (quotientOf s g t) (y .top) (y .bottom) (r .top) (r .bottom) (unit s) (ew .0) (et .0) (product-exact s a w (e .0)) (quotient-exact s g t f (e .1)), not-zero-times (y .bottom) (r .top) (ew .1) (top-apart t r f et))
+
+-- ---- the walk: each v that it uses is exact
+module _ (s : ℕ) (first rest : ℤ) (First Rest : Ratio) (ws : List ℤ) where
+  outward-equals : (j : ℕ) (t : ℤ) (r : Ratio) → ((i : ℕ) → i < j → Equals (at first rest i) (at First Rest i)) → outwardExact s first rest ws j t ≡ true → All NotZero (outwardDivisors s first rest ws j t) → Equals t r → Equals (outward s first rest ws j t) (outwardRatio First Rest ws j r)
+  unfolding outward outwardExact outwardDivisors outwardRatio
+  outward-equals zero t r used m f e = e
+  outward-equals (suc i) t r used m f e =
+      let a = aAfter ws i in
+      let b = bAt ws i in
+      let w = at first rest i in
+      let k = both (stepExact s a w t) (outwardExact s first rest ws i (nextOf s a b w t)) m in
+      outward-equals i (nextOf s a b w t) (nextRatio a b (at First Rest i) r) (λ j h. used j (omega arith)) (k .1) (f .1) (next-equals s a b w t (at First Rest i) r (k .0) (f .0) (used i (omega arith)) e)
+
+-- ---- by the mode
+whole-equals : (x : ℤ) → Equals x (whole x)
+whole-equals x = (same (v x ⊗ n 1) (v x) (omega arith), omega arith)
+
+square-equals : (s : ℕ) (x : ℤ) → exactProduct s x x ≡ true → Equals (productOf s x x) (square s x)
+square-equals s x e = (product-exact s x x e, unit-pos s)
+
+at-equals : (a b : ℤ) (A B : Ratio) (i : ℕ) → Equals a A → Equals b B → Equals (at a b i) (at A B i)
+at-equals a b A B zero f g = f
+at-equals a b A B (suc i) f g = g
+
+used-equals : (s mode k : ℕ) (x : ℤ) → squareExact s mode k x ≡ true → (i : ℕ) → i < k → Equals (at (firstOf mode x (productOf s x x)) (restOf mode x (productOf s x x)) i) (at (firstOf mode (whole x) (square s x)) (restOf mode (whole x) (square s x)) i)
+used-equals s zero k x e i h = at-equals x x (whole x) (whole x) i (whole-equals x) (whole-equals x)
+used-equals s (suc zero) k x e i h = at-equals (productOf s x x) (productOf s x x) (square s x) (square s x) i (square-equals s x e) (square-equals s x e)
+used-equals s (suc (suc m)) zero x e i h = absurd (omega arith)
+used-equals s (suc (suc m)) (suc zero) x e zero h = whole-equals x
+used-equals s (suc (suc m)) (suc zero) x e (suc i) h = absurd (omega arith)
+used-equals s (suc (suc m)) (suc (suc k)) x e i h =
+    let u : ltb 1 (suc (suc k)) ≡ true = lt-ltb 1 (suc (suc k)) (omega arith) in
+    at-equals x (productOf s x x) (whole x) (square s x) i (whole-equals x) (square-equals s x (rw u at e))
+
+pub fraction-exact : (s mode : ℕ) (ws : List ℤ) (k : ℕ) (x : ℤ) → All NotZero (fractionDivisors s mode ws k x) → fractionExact s mode ws k x ≡ true → Equals (fractionOf s mode ws k x) (fractionRatio s mode ws k x)
+fraction-exact s mode ws k x f m =
+    let first = firstOf mode x (productOf s x x) in
+    let rest = restOf mode x (productOf s x x) in
+    let b = both (squareExact s mode k x) (outwardExact s first rest ws k (bAt ws k)) m in
+    outward-equals s first rest (firstOf mode (whole x) (square s x)) (restOf mode (whole x) (square s x)) ws k (bAt ws k) (whole (bAt ws k)) (used-equals s mode k x (b .0)) (b .1) f (whole-equals (bAt ws k))
