@@ -1,4 +1,4 @@
-// What evaluation answers. specs/Answering.antt gives the paper's number, place, word and steps of each case.
+// What evaluation answers. specs/Answering.antt gives the paper's number, place, word, steps and mark of each case.
 use faults::Refusal;
 use formula::Worked;
 

@@ -6,7 +6,7 @@ ghost use Rattle.table.specs.declared.Class.the-variants.{FormulaRecord};
 ghost use Rattle.layout.specs.Fields.{rowFor, shapeOf, wordsOf};
 ghost use Rattle.records.specs.Sheets.{RecordOf, FormulaBytes};
 ghost use Rattle.sheet.specs.Reader.{formulaIn};
-ghost use Rattle.answering.specs.Answering.{refused, answerAt};
+ghost use Rattle.answering.specs.Answering.{refused, withMark, answerAt};
 
 pub mod answers;
 
@@ -44,5 +44,20 @@ pub fn answer_of(b: &[u8], x: i32, s: u32) -> Evaluation
     Evaluation::Answered(Worked {
         word: w.word,
         steps: w.steps,
+        exact: w.exact,
     })
+}
+
+// The answer at an argument that is exact, or was rounded itself: that counts as the answer's own rounding.
+pub fn with_mark(e: Evaluation, exact: bool) -> Evaluation
+    ensures { λ r. ⌜ r ≡ withMark exact e ⌝ }
+{
+    match e {
+        Evaluation::Answered(w) => Evaluation::Answered(Worked {
+            word: w.word,
+            steps: w.steps,
+            exact: exact & w.exact,
+        }),
+        Evaluation::Refused(r) => Evaluation::Refused(r),
+    }
 }

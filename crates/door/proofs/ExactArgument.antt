@@ -13,7 +13,10 @@ use Rattle.door.specs.Taken.{numerator, argumentOf, argumentExact, asWor
 use Rattle.door.proofs.TakenLaws.{taken-nan, taken-inf, taken-fin, as-word-yes}
 
 -- a word that is taken is the argument, with the argument's mark
-word-and-mark : (s : ℕ) (t : Bool) (m : ℕ) (e : ℤ) (w : ℤ) (exact : Bool) → takenOf s (fin t m e) ≡ taken.Word w exact → (argumentOf s t m e ≡ w) × (argumentExact s t m e ≡ exact)
+word-and-mark :
+    (s : ℕ) (t : Bool) (m : ℕ) (e : ℤ) (w : ℤ) (exact : Bool)
+    → takenOf s (fin t m e) ≡ taken.Word w exact
+    → (argumentOf s t m e ≡ w) × (argumentExact s t m e ≡ exact)
 word-and-mark s t m e w exact h = by (argumentOf s t m e) (argumentExact s t m e) (leb (natAbs (argumentOf s t m e)) largest) (sym (taken-fin s t m e) ∙ h)
   where
     by : (z : ℤ) (mark b : Bool) → cond b (taken.Word z mark) taken.NoWord ≡ taken.Word w exact → (z ≡ w) × (mark ≡ exact)

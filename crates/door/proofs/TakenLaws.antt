@@ -1,4 +1,4 @@
--- The laws of `takenOf`: it sees only a double's sign and value, and which sizes give 0 or no word. Both come from laws of rounding.
+-- The laws of `takenOf`: it sees only a double's sign and value, and which sizes give 0 or no word. Both come from laws of rounding and of remainders.
 use Rattle.whole.proofs.Basics.{_≡_, _∙_, refl, sym, ap, ap₂, Bool, true, false, cond, ℕ, _+_, _*_, _/_, _%_, _≤_, _<_, arith, ℤ, pos, natAbs, _*ℤ_, eqb-true, eqb-false, eq-eqb, ne-eqb}
 use native.Mathlib.Nat.{mul-right-comm, mul-mod-left, div-add-mod, eq-of-mul-eq-mul-right, lt-of-mul-lt-mul-right}
 use lib.Ieee.{Float, nan, inf, fin, up, down}

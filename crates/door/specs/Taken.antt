@@ -76,7 +76,9 @@ unfolding takenOf rounded
 half-steps = (refl, refl, refl)
 
 -- 1.5 and -1.5, by their bit patterns: nothing is rounded
-one-and-a-half : (takenOf 24 (ofBits binary64 0x3ff8000000000000) ≡ Word (pos 25165824) true) × (takenOf 24 (ofBits binary64 0xbff8000000000000) ≡ Word (negsuc 25165823) true)
+one-and-a-half :
+    (takenOf 24 (ofBits binary64 0x3ff8000000000000) ≡ Word (pos 25165824) true)
+    × (takenOf 24 (ofBits binary64 0xbff8000000000000) ≡ Word (negsuc 25165823) true)
 unfolding takenOf rounded ofBits
 one-and-a-half = (refl, refl)
 
@@ -119,10 +121,19 @@ unfolding takenOf rounded
 at-the-ends = (refl, refl, refl, refl, refl, refl)
 
 -- a word has no refusal, and what is refused has no word and is not exact
-with-word : (takenNumber (Word (pos 1) true) ≡ 0) × (takenWord (Word (pos 1) true) ≡ pos 1) × (takenExact (Word (pos 1) true) ≡ true) × (takenExact (Word (pos 1) false) ≡ false)
+with-word :
+    (takenNumber (Word (pos 1) true) ≡ 0)
+    × (takenWord (Word (pos 1) true) ≡ pos 1)
+    × (takenExact (Word (pos 1) true) ≡ true)
+    × (takenExact (Word (pos 1) false) ≡ false)
 with-word = (refl, refl, refl, refl)
 
-without-word : (takenWord NoWord ≡ pos 0) × (takenWord NotFinite ≡ pos 0) × (takenPlace NoWord ≡ 0) × (takenExact NoWord ≡ false) × (takenExact NotFinite ≡ false)
+without-word :
+    (takenWord NoWord ≡ pos 0)
+    × (takenWord NotFinite ≡ pos 0)
+    × (takenPlace NoWord ≡ 0)
+    × (takenExact NoWord ≡ false)
+    × (takenExact NotFinite ≡ false)
 without-word = (refl, refl, refl, refl, refl)
 
 -- a double's own value: -1.5 and 96 are whole numbers of steps; half a step is neither 0 nor 1; what is not finite is no number of them

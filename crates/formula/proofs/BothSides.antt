@@ -1,10 +1,12 @@
--- An odd formula answers at -x exactly the negated answer, and an even one the same: kind by kind. Neither is a root, so neither has steps.
+-- An odd formula answers at -x exactly the negated answer, and an even one the same, and both with the same mark: kind by kind. Neither is a root, so
+-- neither has steps.
 use Rattle.whole.proofs.Basics.{_≡_, subst, inl, inr, List, ℕ, take, drop, ℤ, negℤ}
-use Rattle.polynomial.proofs.BothSides.{polynomial-negated, polynomial-same}
-use Rattle.odd_even.proofs.BothSides.{odd-negated, even-same}
-use Rattle.rational.proofs.BothSides.{odd-over-even, even-over-odd, even-over-even, odd-over-odd}
-use Rattle.fraction.proofs.BothSides.{fraction-negated, fraction-same}
+use Rattle.polynomial.proofs.BothSides.{polynomial-negated, polynomial-same, polynomial-mark}
+use Rattle.odd_even.proofs.BothSides.{odd-negated, even-same, odd-mark, even-mark}
+use Rattle.rational.proofs.BothSides.{odd-over-even, even-over-odd, even-over-even, odd-over-odd, rational-mark}
+use Rattle.fraction.proofs.BothSides.{fraction-negated, fraction-same, fraction-mark-negated, fraction-mark-same}
 use Rattle.formula.specs.Formula.{answerBy, answerOf, stepsBy}
+use Rattle.formula.specs.Exact.{exactBy, exactOf}
 use Rattle.formula.specs.Parity.{OddBy, OddFormula, EvenBy, EvenFormula}
 use Rattle.formula.specs.declared.Kind.{Kind}
 use Rattle.formula.specs.declared.Kind.the-variants.{Polynomial, Rational, Fraction, Root, Odd, Even, NoFormula}
@@ -42,3 +44,30 @@ odd-no-steps s h ws x o = other-kinds (h .kind) s x (λ e. subst (λ (k : Kind).
 
 pub even-no-steps : (s : ℕ) (h : Shape) (ws : List ℤ) (x : ℤ) → EvenFormula h ws → stepsBy (h .kind) s x ≡ 0
 even-no-steps s h ws x e = other-kinds (h .kind) s x (λ r. subst (λ (k : Kind). EvenBy k (h .p) (h .q) (h .mode) ws) r e)
+
+-- ---- the mark
+odd-mark-by : (k : Kind) (s p q mode : ℕ) (ws : List ℤ) (x : ℤ) → OddBy k p q mode ws → exactBy k s p q mode ws (negℤ x) ≡ exactBy k s p q mode ws x
+odd-mark-by Polynomial s p q mode ws x h = polynomial-mark s (take p ws) x (inl h)
+odd-mark-by Rational s p q mode ws x (inl h) = rational-mark s (take p ws) (take q (drop p ws)) x (inl (h .0)) (inr (h .1))
+odd-mark-by Rational s p q mode ws x (inr h) = rational-mark s (take p ws) (take q (drop p ws)) x (inr (h .0)) (inl (h .1))
+odd-mark-by Fraction s p q mode ws x h = rw (h .0) (fraction-mark-negated s ws p x)
+odd-mark-by Root s p q mode ws x h = absurd h
+odd-mark-by Odd s p q mode ws x h = odd-mark s (take p ws) x
+odd-mark-by Even s p q mode ws x h = absurd h
+odd-mark-by NoFormula s p q mode ws x h = absurd h
+
+pub formula-mark-negated : (s : ℕ) (h : Shape) (ws : List ℤ) (x : ℤ) → OddFormula h ws → exactOf s h ws (negℤ x) ≡ exactOf s h ws x
+formula-mark-negated s h ws x o = odd-mark-by (h .kind) s (h .p) (h .q) (h .mode) ws x o
+
+even-mark-by : (k : Kind) (s p q mode : ℕ) (ws : List ℤ) (x : ℤ) → EvenBy k p q mode ws → exactBy k s p q mode ws (negℤ x) ≡ exactBy k s p q mode ws x
+even-mark-by Polynomial s p q mode ws x h = polynomial-mark s (take p ws) x (inr h)
+even-mark-by Rational s p q mode ws x (inl h) = rational-mark s (take p ws) (take q (drop p ws)) x (inr (h .0)) (inr (h .1))
+even-mark-by Rational s p q mode ws x (inr h) = rational-mark s (take p ws) (take q (drop p ws)) x (inl (h .0)) (inl (h .1))
+even-mark-by Fraction s p q mode ws x h = rw h (fraction-mark-same s ws p x)
+even-mark-by Root s p q mode ws x h = absurd h
+even-mark-by Odd s p q mode ws x h = absurd h
+even-mark-by Even s p q mode ws x h = even-mark s (take p ws) x
+even-mark-by NoFormula s p q mode ws x h = absurd h
+
+pub formula-mark-same : (s : ℕ) (h : Shape) (ws : List ℤ) (x : ℤ) → EvenFormula h ws → exactOf s h ws (negℤ x) ≡ exactOf s h ws x
+formula-mark-same s h ws x e = even-mark-by (h .kind) s (h .p) (h .q) (h .mode) ws x e

@@ -1,10 +1,11 @@
--- Laws of formulas. `StaysInRange`, `Distance`, `BothSides`, `FewSteps` and `CheckedByHand` hold promises.
+-- Laws of formulas. `StaysInRange`, `Distance`, `ExactAnswer`, `BothSides`, `FewSteps` and `CheckedByHand` hold promises.
 pub mod IntervalLaws
 pub mod SoundLaws
 pub mod StaysInRange
 pub mod ReadyLaws
 pub mod JudgedLaws
 pub mod Distance
+pub mod ExactAnswer
 pub mod FewSteps
 pub mod BothSides
 pub mod CheckedByHand

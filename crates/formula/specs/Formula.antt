@@ -1,6 +1,6 @@
 -- A formula: its shape (kind, counts, mode), its interval lo..hi and its stored words. The binary places are s.
 use mathlib.Core.Path.{_≡_, refl}
-use mathlib.Core.Bool.{cond}
+use mathlib.Core.Bool.{Bool, true, false, cond}
 use mathlib.Core.List.{List, [], _∷_}
 use Prim.Native.Nat.{ℕ, _+_, _≤_}
 use native.Mathlib.Omega.{arith}
@@ -17,10 +17,12 @@ use Rattle.stored.specs.Words.{words, Stretch}
 use Rattle.admission.specs.declared.Admission.{Admission}
 use Rattle.admission.specs.declared.Admission.the-variants.{Admitted, RangeLeft}
 use Rattle.polynomial.specs.Polynomial.{horner, polynomialNumbers, boundOf, polynomialAdmission}
+use Rattle.polynomial.specs.Exact.{polynomialExact}
 use Rattle.odd_even.specs.OddEven.{evenOf, oddOf, evenNumbers, oddNumbers, evenAdmission, oddAdmission}
 use Rattle.rational.specs.Rational.{rationalOf, rationalNumbers, rationalDivisors, rationalAdmission}
 use Rattle.fraction.specs.Fraction.{outwardNumbers, outwardDivisors, fractionOf, fractionNumbers, fractionDivisors}
 use Rattle.fraction.specs.Admission.{fractionAdmission}
+use Rattle.formula.specs.Exact.{exactOf}
 use Rattle.formula.specs.declared.Kind.{Kind}
 use Rattle.formula.specs.declared.Kind.the-variants.{Polynomial, Rational, Fraction, Root, Odd, Even, NoFormula}
 use Rattle.formula.specs.declared.Shape.{Shape}
@@ -49,11 +51,12 @@ stepsBy Odd s x = 0
 stepsBy Even s x = 0
 stepsBy NoFormula s x = 0
 
-abbrev pub worked : ℤ → ℕ → Worked
-worked w n = record { word = w; steps = n }
+abbrev pub worked : ℤ → ℕ → Bool → Worked
+worked w n e = record { word = w; steps = n; exact = e }
 
+-- ---- the answer with its steps and its mark
 abbrev pub workedOf : ℕ → Shape → List ℤ → ℤ → Worked
-workedOf s h ws x = worked (answerOf s h ws x) (stepsBy (h .kind) s x)
+workedOf s h ws x = worked (answerOf s h ws x) (stepsBy (h .kind) s x) (exactOf s h ws x)
 
 -- ---- the numbers on the way to the answer: each rounded product, quotient and sum; of a root, the answer itself
 abbrev pub numbersBy : Kind → ℕ → ℕ → ℕ → ℕ → List ℤ → ℤ → List ℤ
@@ -165,15 +168,17 @@ root-numbers :
 unfolding rootIn
 root-numbers = (refl, refl, refl)
 
--- a root tells its steps, 6 of four, 5 of two and none of 0, and of the word 1 at 16 places 4; the constant 3 tells none, and neither do the other kinds
+-- a root tells its steps, 6 of four, 5 of two and none of 0, and of the word 1 at 16 places 4; the constant 3 tells none, and neither do the other kinds.
+-- That of two is rounded, and so is half a step
 root-steps :
-    (workedOf 24 (record { kind = Root; p = 0; q = 0; mode = 0 }) [] (pos 67108864) ≡ worked (pos 33554432) 6)
-    × (workedOf 24 (record { kind = Root; p = 0; q = 0; mode = 0 }) [] (pos 33554432) ≡ worked (pos 23726566) 5)
-    × (workedOf 24 (record { kind = Root; p = 0; q = 0; mode = 0 }) [] (pos 0) ≡ worked (pos 0) 0)
-    × (workedOf 16 (record { kind = Root; p = 0; q = 0; mode = 0 }) [] (pos 1) ≡ worked (pos 256) 4)
-    × (workedOf 24 (record { kind = Polynomial; p = 1; q = 0; mode = 0 }) (pos 3 ∷ []) (pos 67108864) ≡ worked (pos 3) 0)
-unfolding rootIn heronFrom digitsIn horner rounded
-root-steps = (refl, refl, refl, refl, refl)
+    (workedOf 24 (record { kind = Root; p = 0; q = 0; mode = 0 }) [] (pos 67108864) ≡ worked (pos 33554432) 6 true)
+    × (workedOf 24 (record { kind = Root; p = 0; q = 0; mode = 0 }) [] (pos 33554432) ≡ worked (pos 23726566) 5 false)
+    × (workedOf 24 (record { kind = Root; p = 0; q = 0; mode = 0 }) [] (pos 0) ≡ worked (pos 0) 0 true)
+    × (workedOf 16 (record { kind = Root; p = 0; q = 0; mode = 0 }) [] (pos 1) ≡ worked (pos 256) 4 true)
+    × (workedOf 24 (record { kind = Polynomial; p = 1; q = 0; mode = 0 }) (pos 3 ∷ []) (pos 67108864) ≡ worked (pos 3) 0 true)
+    × (workedOf 24 (record { kind = Polynomial; p = 2; q = 0; mode = 0 }) (pos 3 ∷ pos 8388608 ∷ []) (pos 1) ≡ worked (pos 4) 0 false)
+unfolding rootIn heronFrom digitsIn horner polynomialExact rounded
+root-steps = (refl, refl, refl, refl, refl, refl)
 
 no-steps :
     (stepsBy Polynomial 24 (pos 67108864) ≡ 0)

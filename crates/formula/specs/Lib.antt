@@ -1,4 +1,5 @@
--- Formulas of every kind, which of them are odd or even, and the cases that the paper has checked by hand.
+-- Formulas of every kind, the mark of an answer, which formulas are odd or even, and the cases that the paper has checked by hand.
+pub mod Exact
 pub mod Formula
 pub mod Parity
 pub mod Checked

@@ -1,8 +1,11 @@
 // A formula of any kind: its shape, and what it answers over the words that stand in bytes.
 ghost use mathlib.Core.Path.{_≡_};
-ghost use Rattle.root.specs.Root.{Rootable, rootWord};
+ghost use Prim.Native.Nat.{_<_};
+ghost use Rattle.word.specs.Exact.{wholeAt};
+ghost use Rattle.root.specs.Root.{Rootable, rootWord, exactRoot};
 ghost use Rattle.root.specs.Heron.{rootedBy};
 ghost use Rattle.formula.specs.Formula.{mostOf, worked, workedOf, storedWords, Stored, Answerable};
+use word::Marked;
 
 // A formula's kind. `NoFormula` is the kind of a record that is no formula.
 pub enum Kind {
@@ -33,10 +36,12 @@ pub struct Formula {
     pub words: [i32; 32],
 }
 
-// What a formula answers: the word, and beside it the steps of Heron's rule to a root, the last one included; the other kinds take none.
+// What a formula answers: the word, and beside it the steps of Heron's rule to a root, the last one included, of which the other kinds take
+// none; and whether the word is exact, that is, no product or quotient was rounded, and of a root its square is the scaled argument.
 pub struct Worked {
     pub word: i32,
     pub steps: u16,
+    pub exact: bool,
 }
 
 // The larger of |lo| and |hi|.
@@ -48,20 +53,27 @@ pub fn most_of(lo: i32, hi: i32) -> u32
     if a < b { b } else { a }
 }
 
-fn without_steps(word: i32) -> Worked
-    ensures { λ r. ⌜ r ≡ worked word 0 ⌝ }
+// Here what the operations left loose is looked at.
+fn without_steps(a: Marked, s: u32) -> Worked
+    requires { ⌜ s < 64 ⌝ }
+    ensures { λ r. ⌜ r ≡ worked (a .word) 0 (wholeAt s (a .loose)) ⌝ }
 {
-    Worked { word, steps: 0 }
+    Worked {
+        word: a.word,
+        steps: 0,
+        exact: word::is_whole(a.loose, s),
+    }
 }
 
 fn root_with_steps(x: i32, s: u32) -> Worked
     requires { ⌜ Rootable s x ⌝ }
-    ensures { λ r. ⌜ r ≡ worked (rootWord s x) (rootedBy s x .steps) ⌝ }
+    ensures { λ r. ⌜ r ≡ worked (rootWord s x) (rootedBy s x .steps) (exactRoot s x) ⌝ }
 {
     let r = root::root(x, s);
     Worked {
         word: r.root as i32,
         steps: r.steps,
+        exact: r.exact,
     }
 }
 
@@ -73,12 +85,16 @@ pub fn answer(b: &[u8], at: usize, shape: Shape, x: i32, s: u32) -> Worked
     let kind = shape.kind;
     let p = shape.p as usize;
     match kind {
-        Kind::Polynomial => without_steps(polynomial::answer(b, at, p, x, s)),
-        Kind::Rational => without_steps(rational::answer(b, at, p, shape.q as usize, x, s)),
-        Kind::Fraction => without_steps(fraction::answer(b, at, p, shape.mode as u32, x, s)),
+        Kind::Polynomial => without_steps(polynomial::answer(b, at, p, x, s), s),
+        Kind::Rational => without_steps(rational::answer(b, at, p, shape.q as usize, x, s), s),
+        Kind::Fraction => without_steps(fraction::answer(b, at, p, shape.mode as u32, x, s), s),
         Kind::Root => root_with_steps(x, s),
-        Kind::Odd => without_steps(odd_even::odd(b, at, p, x, s)),
-        Kind::Even => without_steps(odd_even::even(b, at, p, x, s)),
-        Kind::NoFormula => without_steps(0),
+        Kind::Odd => without_steps(odd_even::odd(b, at, p, x, s), s),
+        Kind::Even => without_steps(odd_even::even(b, at, p, x, s), s),
+        Kind::NoFormula => Worked {
+            word: 0,
+            steps: 0,
+            exact: true,
+        },
     }
 }

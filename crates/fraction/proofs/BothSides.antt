@@ -4,7 +4,6 @@ use Rattle.whole.proofs.Basics.{_≡_, _∙_, refl, sym, ap, ap₂, Bool, true,
 use mathlib.Core.Bool.{_&&_}
 use Rattle.whole.proofs.Order.{abs-neg}
 use Rattle.word.specs.Words.{productOf, quotientOf}
-use Rattle.word.specs.Exact.{exactProduct}
 use Rattle.word.proofs.SignLaws.{sign-behind-zero}
 use Rattle.word.proofs.WordLaws.{product-odd-right, product-same, quotient-odd-dividend}
 use Rattle.word.proofs.ExactLaws.{product-sizes, quotient-sizes}

@@ -1,5 +1,5 @@
--- A fraction's answer that is marked exact is the fraction's exact value: where w is y/o, t is p/q, and the product and the quotient of a step
--- are exact, so is what the step gives, as b + a·(y/o)/(p/q); so it goes from b_k outward.
+-- A fraction's answer that is marked exact is the fraction's exact value. Where v is y/o and t is p/q, a step whose product and quotient are exact
+-- gives b + a·(y/o)/(p/q); so it goes from b_k outward.
 use Rattle.whole.proofs.Basics.{_≡_, _∙_, sym, ap, subst, true, List, [], _∷_, ℕ, suc, zero, _<_, arith, ltb, ℤ, pos, _+ℤ_, _*ℤ_, lt-ltb}
 use native.Mathlib.Nat.{mul-le-mul}
 use Rattle.whole.proofs.Diff.{v, n, _⊗_, same}
@@ -17,8 +17,8 @@ not-zero-times : (a b : ℤ) → NotZero a → NotZero b → NotZero (a *ℤ b)
 not-zero-times a b f g = omega (arith, abs-mul a b, mul-le-mul f g)
 
 -- ---- one step, by three identities
-shared : (b z o p : ℤ) → (b +ℤ z) *ℤ (o *ℤ p) ≡ b *ℤ (o *ℤ p) +ℤ z *ℤ (o *ℤ p)
-shared b z o p = ring (b ∷ z ∷ o ∷ p ∷ []) ((var 0 :+ var 1) :* (var 2 :* var 3)) (var 0 :* (var 2 :* var 3) :+ var 1 :* (var 2 :* var 3)) tt
+taken-apart : (b z o p : ℤ) → (b +ℤ z) *ℤ (o *ℤ p) ≡ b *ℤ (o *ℤ p) +ℤ z *ℤ (o *ℤ p)
+taken-apart b z o p = ring (b ∷ z ∷ o ∷ p ∷ []) ((var 0 :+ var 1) :* (var 2 :* var 3)) (var 0 :* (var 2 :* var 3) :+ var 1 :* (var 2 :* var 3)) tt
 
 turned : (z t o q : ℤ) → z *ℤ (o *ℤ (t *ℤ q)) ≡ z *ℤ t *ℤ (o *ℤ q)
 turned z t o q = ring (z ∷ t ∷ o ∷ q ∷ []) (var 0 :* (var 2 :* (var 1 :* var 3))) (var 0 :* var 1 :* (var 2 :* var 3)) tt
@@ -37,30 +37,47 @@ module _ (a b w t g z y o p q : ℤ) (u : ℕ) (ew : w *ℤ o ≡ y) (et : t *�
       ∙ ap (λ (k : ℤ). a *ℤ (k *ℤ q)) ew
 
   sum-is : (b +ℤ z) *ℤ (o *ℤ p) ≡ b *ℤ (o *ℤ p) +ℤ a *ℤ (y *ℤ q)
-  sum-is = shared b z o p ∙ ap (λ (k : ℤ). b *ℤ (o *ℤ p) +ℤ k) quotient-is
+  sum-is = taken-apart b z o p ∙ ap (λ (k : ℤ). b *ℤ (o *ℤ p) +ℤ k) quotient-is
 
 top-apart : (t : ℤ) (r : Ratio) → NotZero t → Equals t r → NotZero (r .top)
 top-apart t r f e = subst NotZero (e .0) (not-zero-times t (r .bottom) f (e .1))
 
-next-equals : (s : ℕ) (a b w t : ℤ) (y r : Ratio) → stepExact s a w t ≡ true → NotZero t → Equals w y → Equals t r → Equals (nextOf s a b w t) (nextRatio a b y r)
+next-equals :
+    (s : ℕ) (a b w t : ℤ) (y r : Ratio)
+    → stepExact s a w t ≡ true
+    → NotZero t
+    → Equals w y
+    → Equals t r
+    → Equals (nextOf s a b w t) (nextRatio a b y r)
 next-equals s a b w t y r m f ew et =
     let g = productOf s a w in
     let e = both (exactProduct s a w) (exactQuotient s g t) m in
-    (sum-is a b w t g (quotientOf s g t) (y .top) (y .bottom) (r .top) (r .bottom) (unit s) (ew .0) (et .0) (product-exact s a w (e .0)) (quotient-exact s g t f (e .1)), not-zero-times (y .bottom) (r .top) (ew .1) (top-apart t r f et))
+    let eg = product-exact s a w (e .0) in
+    let ez = quotient-exact s g t f (e .1) in
+    let sum = sum-is a b w t g (quotientOf s g t) (y .top) (y .bottom) (r .top) (r .bottom) (unit s) (ew .0) (et .0) eg ez in
+    (sum, not-zero-times (y .bottom) (r .top) (ew .1) (top-apart t r f et))
 
--- ---- the walk: each v that it uses is exact
+-- ---- the walk, where each v that it uses is exact
 module _ (s : ℕ) (first rest : ℤ) (First Rest : Ratio) (ws : List ℤ) where
-  outward-equals : (j : ℕ) (t : ℤ) (r : Ratio) → ((i : ℕ) → i < j → Equals (at first rest i) (at First Rest i)) → outwardExact s first rest ws j t ≡ true → All NotZero (outwardDivisors s first rest ws j t) → Equals t r → Equals (outward s first rest ws j t) (outwardRatio First Rest ws j r)
+  outward-equals :
+      (j : ℕ) (t : ℤ) (r : Ratio)
+      → ((i : ℕ) → i < j → Equals (at first rest i) (at First Rest i))
+      → outwardExact s first rest ws j t ≡ true
+      → All NotZero (outwardDivisors s first rest ws j t)
+      → Equals t r
+      → Equals (outward s first rest ws j t) (outwardRatio First Rest ws j r)
   unfolding outward outwardExact outwardDivisors outwardRatio
   outward-equals zero t r used m f e = e
   outward-equals (suc i) t r used m f e =
       let a = aAfter ws i in
       let b = bAt ws i in
       let w = at first rest i in
+      let W = at First Rest i in
       let k = both (stepExact s a w t) (outwardExact s first rest ws i (nextOf s a b w t)) m in
-      outward-equals i (nextOf s a b w t) (nextRatio a b (at First Rest i) r) (λ j h. used j (omega arith)) (k .1) (f .1) (next-equals s a b w t (at First Rest i) r (k .0) (f .0) (used i (omega arith)) e)
+      let step = next-equals s a b w t W r (k .0) (f .0) (used i (omega arith)) e in
+      outward-equals i (nextOf s a b w t) (nextRatio a b W r) (λ j h. used j (omega arith)) (k .1) (f .1) step
 
--- ---- by the mode
+-- ---- the v's of each mode
 whole-equals : (x : ℤ) → Equals x (whole x)
 whole-equals x = (same (v x ⊗ n 1) (v x) (omega arith), omega arith)
 
@@ -71,9 +88,16 @@ at-equals : (a b : ℤ) (A B : Ratio) (i : ℕ) → Equals a A → Equals b B �
 at-equals a b A B zero f g = f
 at-equals a b A B (suc i) f g = g
 
-used-equals : (s mode k : ℕ) (x : ℤ) → squareExact s mode k x ≡ true → (i : ℕ) → i < k → Equals (at (firstOf mode x (productOf s x x)) (restOf mode x (productOf s x x)) i) (at (firstOf mode (whole x) (square s x)) (restOf mode (whole x) (square s x)) i)
+used-equals :
+    (s mode k : ℕ) (x : ℤ)
+    → squareExact s mode k x ≡ true
+    → (i : ℕ)
+    → i < k
+    → Equals
+      (at (firstOf mode x (productOf s x x)) (restOf mode x (productOf s x x)) i)
+      (at (firstOf mode (whole x) (square s x)) (restOf mode (whole x) (square s x)) i)
 used-equals s zero k x e i h = at-equals x x (whole x) (whole x) i (whole-equals x) (whole-equals x)
-used-equals s (suc zero) k x e i h = at-equals (productOf s x x) (productOf s x x) (square s x) (square s x) i (square-equals s x e) (square-equals s x e)
+used-equals s (suc zero) k x e i h = let q = productOf s x x in at-equals q q (square s x) (square s x) i (square-equals s x e) (square-equals s x e)
 used-equals s (suc (suc m)) zero x e i h = absurd (omega arith)
 used-equals s (suc (suc m)) (suc zero) x e zero h = whole-equals x
 used-equals s (suc (suc m)) (suc zero) x e (suc i) h = absurd (omega arith)
@@ -81,9 +105,16 @@ used-equals s (suc (suc m)) (suc (suc k)) x e i h =
     let u : ltb 1 (suc (suc k)) ≡ true = lt-ltb 1 (suc (suc k)) (omega arith) in
     at-equals x (productOf s x x) (whole x) (square s x) i (whole-equals x) (square-equals s x (rw u at e))
 
-pub fraction-exact : (s mode : ℕ) (ws : List ℤ) (k : ℕ) (x : ℤ) → All NotZero (fractionDivisors s mode ws k x) → fractionExact s mode ws k x ≡ true → Equals (fractionOf s mode ws k x) (fractionRatio s mode ws k x)
+pub fraction-exact :
+    (s mode : ℕ) (ws : List ℤ) (k : ℕ) (x : ℤ)
+    → All NotZero (fractionDivisors s mode ws k x)
+    → fractionExact s mode ws k x ≡ true
+    → Equals (fractionOf s mode ws k x) (fractionRatio s mode ws k x)
 fraction-exact s mode ws k x f m =
     let first = firstOf mode x (productOf s x x) in
     let rest = restOf mode x (productOf s x x) in
-    let b = both (squareExact s mode k x) (outwardExact s first rest ws k (bAt ws k)) m in
-    outward-equals s first rest (firstOf mode (whole x) (square s x)) (restOf mode (whole x) (square s x)) ws k (bAt ws k) (whole (bAt ws k)) (used-equals s mode k x (b .0)) (b .1) f (whole-equals (bAt ws k))
+    let First = firstOf mode (whole x) (square s x) in
+    let Rest = restOf mode (whole x) (square s x) in
+    let t = bAt ws k in
+    let b = both (squareExact s mode k x) (outwardExact s first rest ws k t) m in
+    outward-equals s first rest First Rest ws k t (whole t) (used-equals s mode k x (b .0)) (b .1) f (whole-equals t)

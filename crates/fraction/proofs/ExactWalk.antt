@@ -1,5 +1,5 @@
--- The mark of the walk outward as the code meets it: `before` marks what came before, and the square comes before the first step. A mark joined to
--- those before it is joined to them and the rest alike.
+-- The mark as the code meets it: `before` marks what came before a step, the square before the first one. A mark joined to those before it may as well
+-- be joined to those after it, so that the code's order gives the definition's.
 use Rattle.whole.proofs.Basics.{_≡_, _∙_, refl, ap₂, Bool, true, false, cond, List, ℕ, suc, zero, _<_, arith, ltb, ℤ}
 use mathlib.Core.Bool.{_&&_}
 use lib.Bits.{bitOr}
@@ -16,30 +16,35 @@ and-assoc : (before a b : Bool) → ((before && a) && b) ≡ (before && (a && b)
 and-assoc true a b = refl
 and-assoc false a b = refl
 
--- ---- at depth 0, and one step, at j = i + 1
+-- ---- the walk: at depth 0, and one step, at j = i + 1
 pub exact-done : (before : Bool) (s : ℕ) (first rest : ℤ) (ws : List ℤ) (t : ℤ) → before ≡ (before && outwardExact s first rest ws 0 t)
 unfolding outwardExact
 exact-done before s first rest ws t = and-true before
 
-pub exact-step : (before : Bool) (s : ℕ) (first rest : ℤ) (ws : List ℤ) (i : ℕ) (t : ℤ) → ((before && stepExact s (aAfter ws i) (at first rest i) t) && outwardExact s first rest ws i (nextOf s (aAfter ws i) (bAt ws i) (at first rest i) t)) ≡ (before && outwardExact s first rest ws (suc i) t)
+pub exact-step :
+    (before : Bool) (s : ℕ) (first rest : ℤ) (ws : List ℤ) (i : ℕ) (t : ℤ)
+    → ((before && stepExact s (aAfter ws i) (at first rest i) t) && outwardExact s first rest ws i (nextOf s (aAfter ws i) (bAt ws i) (at first rest i) t))
+    ≡ (before && outwardExact s first rest ws (suc i) t)
 unfolding outwardExact
 exact-step before s first rest ws i t = and-assoc before _ _
 
--- ---- two numbers joined, by the marks that they tell
+-- two numbers joined, by the marks that they tell
 pub or-marks : (s a b : ℕ) (x y : Bool) → wholeAt s a ≡ x → wholeAt s b ≡ y → wholeAt s (bitOr a b) ≡ (x && y)
 or-marks s a b x y f g = or-whole s a b ∙ ap₂ _&&_ f g
 
--- ---- the square
-pub used-beyond : (mode k : ℕ) → 1 < mode → squareUsed mode k ≡ ltb 1 k
-used-beyond zero k h = absurd (omega arith)
-used-beyond (suc zero) k h = absurd (omega arith)
-used-beyond (suc (suc m)) k h = refl
+-- ---- the square: where it is used, and that what counts of it tells its mark
+pub used-in-two : (mode k : ℕ) → 1 < mode → squareUsed mode k ≡ ltb 1 k
+used-in-two zero k h = absurd (omega arith)
+used-in-two (suc zero) k h = absurd (omega arith)
+used-in-two (suc (suc m)) k h = refl
 
--- what counts of it tells its mark
 counted-mark : (used : Bool) (s loose : ℕ) (e : Bool) → wholeAt s loose ≡ e → wholeAt s (cond used loose 0) ≡ cond used e true
 counted-mark true s loose e f = f
 counted-mark false s loose e f = whole-none s
 
-pub square-mark : (s mode k loose : ℕ) (x : ℤ) → wholeAt s loose ≡ restOf mode true (exactProduct s x x) → wholeAt s (cond (squareUsed mode k) loose 0) ≡ squareExact s mode k x
+pub square-mark :
+    (s mode k loose : ℕ) (x : ℤ)
+    → wholeAt s loose ≡ restOf mode true (exactProduct s x x)
+    → wholeAt s (cond (squareUsed mode k) loose 0) ≡ squareExact s mode k x
 square-mark s zero k loose x e = whole-none s
 square-mark s (suc m) k loose x e = counted-mark (squareUsed (suc m) k) s loose (exactProduct s x x) e

@@ -1,11 +1,11 @@
 // Continued fractions b0 + a1·v1/(b1 + a2·v2/(b2 + ..)) over words that stand in bytes, from `at` on: b0, a1, b1, a2, ..
 ghost use mathlib.Core.Path.{_≡_};
 ghost use mathlib.Core.Bool.{true, cond, _&&_};
-ghost use Prim.Native.Nat.{_+_};
+ghost use Prim.Native.Nat.{_+_, _*_, _^_, _<_};
 ghost use Rattle.word.specs.Words.{Word, Scale, productOf};
 ghost use Rattle.word.specs.Exact.{exactProduct, wholeAt};
 ghost use Rattle.stored.specs.Words.{words, Stretch};
-ghost use Rattle.fraction.specs.Fraction.{bAt, at, firstOf, restOf, nextOf, outward, fractionOf};
+ghost use Rattle.fraction.specs.Fraction.{at, firstOf, restOf, nextOf, outward, fractionOf};
 ghost use Rattle.fraction.specs.Exact.{stepExact, outwardExact, squareUsed, fractionExact};
 ghost use Rattle.fraction.specs.Ready.{StepReady, OutwardReady, FractionReady};
 use word::Marked;
@@ -30,25 +30,25 @@ fn next(a: i32, b: i32, v: i32, t: i32, s: u32) -> Marked
     Marked { word, loose }
 }
 
-// From b_k outward to the answer; `before` is the `loose` of what came before. t is the word at the remaining depth i.
-fn outward(b: &[u8], at: usize, k: usize, first: i32, rest: i32, before: u64, s: u32) -> Marked
-    requires { ⌜ Stretch (now b) at (k + k + 1) × OutwardReady s first rest (words (now b) at (k + k + 1)) k (bAt (words (now b) at (k + k + 1)) k) ⌝ }
-    ensures word { λ r. ⌜ r .word ≡ outward s first rest (words (now (b .entry)) at (k + k + 1)) k (bAt (words (now (b .entry)) at (k + k + 1)) k) ⌝ }
-    ensures mark { λ r. ⌜ wholeAt s (r .loose) ≡ (wholeAt s before && outwardExact s first rest (words (now (b .entry)) at (k + k + 1)) k (bAt (words (now (b .entry)) at (k + k + 1)) k)) ⌝ }
+// From t, the word at depth j, outward to the answer, over the m words from `at` on; `loose` is joined by that of each step. The remaining depth j
+// falls by one. The slice is handed on by a reference to it, and `loose` is lent: LLVM then makes a loop of the calls, while a slice or a struct would
+// be copied for each.
+fn outward(r: &&[u8], at: usize, m: usize, j: usize, t: i32, loose: &mut u64, first: i32, rest: i32, s: u32) -> i32
+    requires { ⌜ Stretch (now (now r)) at m × (at + 4 * m < 2 ^ 64) × OutwardReady s first rest (words (now (now r)) at m) j t ⌝ }
+    ensures word { λ z. ⌜ z ≡ outward s first rest (words (now (now (r .entry))) at m) j t ⌝ }
+    ensures mark { λ z. ⌜ wholeAt s (now (loose .exit)) ≡ (wholeAt s (now (loose .entry)) && outwardExact s first rest (words (now (now (r .entry))) at m) j t) ⌝ }
 {
-    let mut i = k;
-    let mut t = stored::get_word(b, at + 8 * k);
-    let mut loose = before;
-    while i > 0 {
-        i -= 1;
-        let place = at + 8 * i;
-        let a = stored::get_word(b, place + 4);
-        let c = stored::get_word(b, place);
-        let u = next(a, c, factor(i, first, rest), t, s);
-        t = u.word;
-        loose = loose | u.loose;
+    if j == 0 {
+        return t;
     }
-    Marked { word: t, loose }
+    let i = j - 1;
+    let b = *r;
+    let place = at + 8 * i;
+    let a = stored::get_word(b, place + 4);
+    let c = stored::get_word(b, place);
+    let u = next(a, c, factor(i, first, rest), t, s);
+    *loose = *loose | u.loose;
+    outward(r, at, m, i, u.word, loose, first, rest, s)
 }
 
 // v1 of x and its square q.
@@ -91,6 +91,9 @@ pub fn answer(b: &[u8], at: usize, k: usize, mode: u32, x: i32, s: u32) -> Marke
 {
     let rest = rest_of(mode, x, s);
     let first = first_of(mode, x, rest.word);
-    let loose = counted(mode, k, rest.loose);
-    outward(b, at, k, first, rest.word, loose, s)
+    let mut loose = counted(mode, k, rest.loose);
+    let t = stored::get_word(b, at + 8 * k);
+    let lent = b;
+    let word = outward(&lent, at, k + k + 1, k, t, &mut loose, first, rest.word, s);
+    Marked { word, loose }
 }

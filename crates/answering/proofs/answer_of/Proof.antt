@@ -81,7 +81,7 @@ returns-3 c =
     let e = c .before .before in
     let d = start e in
     let h = shapeOf (rowFor (b d)) (b d) in
-    ap (λ (z : ℤ). answered z (a .result .steps)) (held (arg {w = w32} (fits-word c)))
+    ap (λ (z : ℤ). answered z (a .result .steps) (a .result .exact)) (held (arg {w = w32} (fits-word c)))
     ∙ ap Answered (rw (held (x-held d)) at (a .ensures) ∙ ap (λ (ws : List ℤ). workedOf (d .args .s) h ws (d .args .x)) (sym (words-in (rowFor (b d)) (b d))))
     ∙ inside (d .args .s) (f d) (d .args .x) (above e) (below e)
 

@@ -1,4 +1,4 @@
--- `answering::worked_at` meets its contract: the kind's own answer and steps, by the row of the record's code.
+-- `answering::worked_at` meets its contract: the kind's own answer, steps and mark, by the row of the record's code.
 use Rattle.whole.proofs.Basics.{arith, now, needs}
 use Rattle.whole.proofs.Held.{held, arg}
 use Rattle.layout.specs.Fields.{rowFor, Complete}

@@ -49,7 +49,8 @@ returns c =
 returns-2 : tie.Need-returns-2
 returns-2 c =
     let d = c .before .before .args in
-    ap (λ (z : ℤ). Word z (d .exact)) (held (cast {w′ = w32} (arg (c .before .before .fits .z)) (fit-abs (omega (arith, inside c))))) ∙ sym (as-word-yes (d .z) (d .exact) (inside c))
+    ap (λ (z : ℤ). Word z (d .exact)) (held (cast {w′ = w32} (arg (c .before .before .fits .z)) (fit-abs (omega (arith, inside c)))))
+    ∙ sym (as-word-yes (d .z) (d .exact) (inside c))
 
 pub as-word-spec : {M : Type 1} → statement M
 as-word-spec = tie.close (tie.spec cast-t6 returns returns-2)

@@ -66,7 +66,8 @@ returns-4 : tie.Need-returns-4
 returns-4 c =
     let d = c .before .before .before .before in
     by-fields d _
-    (field-low (s d) (signBit (b d)) (exponent (b d)) (fraction (b d)) (d .pre .most) (fraction-most (b d)) (omega (arith, c .if4 .taken)) ∙ ap (Word (pos 0)) (zero-bits (b d)))
+    (field-low (s d) (signBit (b d)) (exponent (b d)) (fraction (b d)) (d .pre .most) (fraction-most (b d)) (omega (arith, c .if4 .taken))
+    ∙ ap (Word (pos 0)) (zero-bits (b d)))
 
 cast-with-sign : tie.Need-cast-with-sign
 cast-with-sign c = fits-code (held-digits (c .before .before .before .before))
@@ -93,6 +94,7 @@ rounded-shift-requires c κs =
 is-whole-requires : tie.Need-is-whole-requires
 is-whole-requires c κs = omega (arith, c .before .before .if4 .left)
 
+-- what is handed to `as_word`
 value-fits : (c : tie.After-struct-told) → SFits w64 (c .before .before .rounded-shift .result .value)
 value-fits c = search (needs, c .struct-told .given)
 
@@ -105,7 +107,8 @@ returns-5 c =
     by-fields d _
     (field-mid (s d) (signBit (b d)) (exponent (b d)) (fraction (b d)) (d .pre .most) (omega (arith, k .before .if4 .left)) (omega (arith, k .before .before .if3 .left))
     ∙ ap (λ (z : ℤ). fromRatio z (2 ^ cut)) (sym (n-is k))
-    ∙ sym (c .as-word .ensures ∙ ap₂ asWord (held (arg (value-fits (c .before))) ∙ r .rounded-shift .ensures .0) (c .before .before .is-whole .ensures ∙ r .rounded-shift .ensures .1)))
+    ∙ ap₂ asWord (sym (held (arg (value-fits (c .before))) ∙ r .rounded-shift .ensures .0)) (sym (c .before .before .is-whole .ensures ∙ r .rounded-shift .ensures .1))
+    ∙ sym (c .as-word .ensures))
 
 pub taken-spec : {M : Type 1} → statement M
 taken-spec =

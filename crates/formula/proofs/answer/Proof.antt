@@ -1,16 +1,21 @@
 -- `formula::answer` meets its contract: each kind's own answer, over as many words as the kind has.
-use Rattle.whole.proofs.Basics.{_≡_, _∙_, refl, sym, ap, ap₂, subst, List, ℕ, _+_, _*_, take, drop, ℤ, w32, needs}
-use Rattle.whole.proofs.Held.{back, held, arg, given}
+use Rattle.whole.proofs.Basics.{_≡_, _∙_, refl, sym, ap, ap₂, subst, Bool, List, ℕ, _+_, _*_, _<_, arith, take, drop, ℤ, w32, needs}
+use Rattle.whole.proofs.Held.{back, held, arg}
 use Rattle.root.specs.Root.{Rootable}
 use Rattle.stored.specs.Words.{words, Stretch}
 use Rattle.stored.proofs.WordsLaws.{words-all, words-take, words-drop}
 use Rattle.polynomial.specs.Polynomial.{horner, PolynomialReady}
+use Rattle.polynomial.specs.Exact.{polynomialExact}
 use Rattle.odd_even.specs.OddEven.{evenOf, oddOf}
+use Rattle.odd_even.specs.Exact.{evenExact, oddExact}
 use Rattle.rational.specs.Rational.{rationalOf, RationalReady}
+use Rattle.rational.specs.Exact.{rationalExact}
 use Rattle.fraction.specs.Ready.{FractionReady}
 use Rattle.formula.specs.Formula.{answerBy, stepsBy, worked, workedOf, wordCount, storedWords}
+use Rattle.formula.specs.Exact.{exactBy}
 use Rattle.formula.specs.declared.Kind.{Kind}
 use Rattle.formula.specs.declared.Kind.the-variants.{Polynomial, Rational, Fraction, Root, Odd, Even, NoFormula}
+use Rattle.formula.specs.declared.Worked.{Worked}
 use Rattle.formula.proofs.ReadyLaws.{polynomial-ready, rational-ready, fraction-ready, root-ready, odd-ready, even-ready}
 use Rattle.formula.proofs.answer.Statement.{statement}
 use Rattle.formula.proofs.answer.Tie as tie
@@ -52,8 +57,14 @@ module _ (d : tie.Start) where
   bottom e = ap (λ (l : List ℤ). take second (drop first l)) (ws-is Rational e) ∙ ap (take second) (words-drop bytes place first second) ∙ words-all bytes (place + 4 * first) second
 
   -- what a kind answers, at the argument as it is read, is what the whole does
-  whole : (k : Kind) → d .args .shape .kind ≡ k → worked (answerBy k (d .args .s) first second (d .args .shape .mode) ws (back w32 (d .args .x))) (stepsBy k (d .args .s) (back w32 (d .args .x))) ≡ workedOf (d .args .s) (d .args .shape) ws (d .args .x)
-  whole k e = ap₂ (λ (j : Kind) (x : ℤ). worked (answerBy j (d .args .s) first second (d .args .shape .mode) ws x) (stepsBy j (d .args .s) x)) (sym e) x-is
+  abbrev by-kind : Kind → ℤ → Worked
+  by-kind k x = worked (answerBy k (d .args .s) first second (d .args .shape .mode) ws x) (stepsBy k (d .args .s) x) (exactBy k (d .args .s) first second (d .args .shape .mode) ws x)
+
+  whole : (k : Kind) → d .args .shape .kind ≡ k → by-kind k (back w32 (d .args .x)) ≡ workedOf (d .args .s) (d .args .shape) ws (d .args .x)
+  whole k e = ap₂ by-kind (sym e) x-is
+
+  short : d .args .s < 64
+  short = omega (arith, d .pre .1 .scale .most)
 
 answer-requires : tie.Need-answer-requires
 answer-requires c κs =
@@ -100,8 +111,8 @@ even-requires c κs =
     let e = c .enum-told6 .given .1 in
     (reach d Even e, rw (x-is d, ← one-list d Even refl e) (even-ready (a .s) (a .shape) (ws d) (a .x) (d .pre .1) e))
 
-stepless : (w y : ℤ) → back w32 w ≡ y → worked (back w32 w) 0 ≡ worked y 0
-stepless w y e = ap (λ (z : ℤ). worked z 0) e
+stepless : {w y : ℤ} {b e : Bool} → w ≡ y → b ≡ e → worked w 0 b ≡ worked y 0 e
+stepless f g = ap₂ (λ (z : ℤ) (u : Bool). worked z 0 u) f g
 
 returns : tie.Need-returns
 returns c =
@@ -109,7 +120,11 @@ returns c =
     let b = a .before in
     let d = b .before .before .before .before in
     let e = b .enum-told .given .1 in
-    c .without-steps .ensures ∙ stepless (a .answer .result) _ (held (given {w = w32} (a .answer .ok)) ∙ a .answer .ensures ∙ ap (λ (l : List ℤ). horner (d .args .s) l (back w32 (d .args .x))) (sym (one-list d Polynomial refl e))) ∙ whole d Polynomial e
+    let l = sym (one-list d Polynomial refl e) in
+    let x = back w32 (d .args .x) in
+    c .without-steps .ensures
+    ∙ stepless (a .answer .ensures .0 ∙ ap (λ (k : List ℤ). horner (d .args .s) k x) l) (a .answer .ensures .1 ∙ ap (λ (k : List ℤ). polynomialExact (d .args .s) k x) l)
+    ∙ whole d Polynomial e
 
 returns-2 : tie.Need-returns-2
 returns-2 c =
@@ -117,7 +132,12 @@ returns-2 c =
     let b = a .before .before in
     let d = b .before .before .before .before in
     let e = b .enum-told2 .given .1 in
-    c .without-steps2 .ensures ∙ stepless (a .answer2 .result) _ (held (given {w = w32} (a .answer2 .ok)) ∙ a .answer2 .ensures ∙ ap₂ (λ (l m : List ℤ). rationalOf (d .args .s) l m (back w32 (d .args .x))) (sym (top d e)) (sym (bottom d e))) ∙ whole d Rational e
+    let l = sym (top d e) in
+    let m = sym (bottom d e) in
+    let x = back w32 (d .args .x) in
+    c .without-steps2 .ensures
+    ∙ stepless (a .answer2 .ensures .0 ∙ ap₂ (λ (j k : List ℤ). rationalOf (d .args .s) j k x) l m) (a .answer2 .ensures .1 ∙ ap₂ (λ (j k : List ℤ). rationalExact (d .args .s) j k x) l m)
+    ∙ whole d Rational e
 
 returns-3 : tie.Need-returns-3
 returns-3 c =
@@ -125,7 +145,13 @@ returns-3 c =
     let b = a .before .before in
     let d = b .before .before .before .before in
     let e = b .enum-told3 .given .1 in
-    c .without-steps3 .ensures ∙ stepless (a .answer3 .result) _ (held (given {w = w32} (a .answer3 .ok)) ∙ a .answer3 .ensures ∙ ap (λ (l : List ℤ). answerBy Fraction (d .args .s) (first d) (second d) (d .args .shape .mode) l (back w32 (d .args .x))) (sym (ws-is d Fraction e))) ∙ whole d Fraction e
+    let l = sym (ws-is d Fraction e) in
+    let x = back w32 (d .args .x) in
+    c .without-steps3 .ensures
+    ∙ stepless
+        (a .answer3 .ensures .0 ∙ ap (λ (k : List ℤ). answerBy Fraction (d .args .s) (first d) (second d) (d .args .shape .mode) k x) l)
+        (a .answer3 .ensures .1 ∙ ap (λ (k : List ℤ). exactBy Fraction (d .args .s) (first d) (second d) (d .args .shape .mode) k x) l)
+    ∙ whole d Fraction e
 
 returns-4 : tie.Need-returns-4
 returns-4 c =
@@ -138,7 +164,11 @@ returns-5 c =
     let b = a .before in
     let d = b .before .before .before .before in
     let e = b .enum-told5 .given .1 in
-    c .without-steps4 .ensures ∙ stepless (a .odd .result) _ (held (given {w = w32} (a .odd .ok)) ∙ a .odd .ensures ∙ ap (λ (l : List ℤ). oddOf (d .args .s) l (back w32 (d .args .x))) (sym (one-list d Odd refl e))) ∙ whole d Odd e
+    let l = sym (one-list d Odd refl e) in
+    let x = back w32 (d .args .x) in
+    c .without-steps4 .ensures
+    ∙ stepless (a .odd .ensures .0 ∙ ap (λ (k : List ℤ). oddOf (d .args .s) k x) l) (a .odd .ensures .1 ∙ ap (λ (k : List ℤ). oddExact (d .args .s) k x) l)
+    ∙ whole d Odd e
 
 returns-6 : tie.Need-returns-6
 returns-6 c =
@@ -146,12 +176,14 @@ returns-6 c =
     let b = a .before in
     let d = b .before .before .before .before in
     let e = b .enum-told6 .given .1 in
-    c .without-steps5 .ensures ∙ stepless (a .even .result) _ (held (given {w = w32} (a .even .ok)) ∙ a .even .ensures ∙ ap (λ (l : List ℤ). evenOf (d .args .s) l (back w32 (d .args .x))) (sym (one-list d Even refl e))) ∙ whole d Even e
+    let l = sym (one-list d Even refl e) in
+    let x = back w32 (d .args .x) in
+    c .without-steps5 .ensures
+    ∙ stepless (a .even .ensures .0 ∙ ap (λ (k : List ℤ). evenOf (d .args .s) k x) l) (a .even .ensures .1 ∙ ap (λ (k : List ℤ). evenExact (d .args .s) k x) l)
+    ∙ whole d Even e
 
 returns-7 : tie.Need-returns-7
-returns-7 c =
-    let b = c .before in
-    c .without-steps6 .ensures ∙ whole (b .before .before .before .before) NoFormula (b .enum-told7 .given .1)
+returns-7 c = whole (c .before .before .before .before) NoFormula (c .enum-told7 .given .1)
 
 pub answer-spec : {M : Type 1} → statement M
 answer-spec =
@@ -160,24 +192,23 @@ answer-spec =
     (λ c. search needs)
     (λ c. search needs)
     answer-requires
-    (λ c. search needs)
+    (λ c κs. short (c .before .before .before .before .before))
     (λ c. search needs)
     (λ c. search needs)
     answer-requires-2
-    (λ c. search needs)
+    (λ c κs. short (c .before .before .before .before .before .before))
     (λ c. search needs)
     (λ c. search needs)
     answer-requires-3
-    (λ c. search needs)
+    (λ c κs. short (c .before .before .before .before .before .before))
     (λ c. search needs)
     root-with-steps-requires
     (λ c. search needs)
     odd-requires
-    (λ c. search needs)
+    (λ c κs. short (c .before .before .before .before .before))
     (λ c. search needs)
     even-requires
-    (λ c. search needs)
-    (λ c. search needs)
+    (λ c κs. short (c .before .before .before .before .before))
     (λ c. search needs)
     returns
     returns-2

@@ -1,7 +1,7 @@
 -- `fraction::answer` meets its contract: the walk outward from b_k, with v1 and the other v's of the mode.
 use Rattle.whole.proofs.Basics.{_≡_, _∙_, ap, List, ℕ, _+_, _<_, arith, length, ℤ, w32, needs}
 use Rattle.whole.proofs.Fit.{fit-abs}
-use Rattle.whole.proofs.Held.{back, held, arg, known}
+use Rattle.whole.proofs.Held.{back, held, arg, known, given}
 use Rattle.word.specs.Words.{productOf}
 use Rattle.word.specs.Exact.{wholeAt}
 use Rattle.stored.specs.Words.{words}
@@ -68,15 +68,17 @@ rest-of-requires c κs =
 
 outward-requires : tie.Need-outward-requires
 outward-requires c κs =
-    let g = c .before .before in
+    let g = c .before .before .before in
     let d = start g in
     let l : length (d .args .b .now) < 18446744073709551616 = search needs in
     (d .pre .0, omega (arith, d .pre .0), rw (first-is g, rest-is g, t-is g) (ready d))
 
 returns : tie.Need-returns
 returns c =
-    let g = c .before .before .before in
-    (rw (first-is g, rest-is g, t-is g) at (c .outward .ensures .0), rw (mark-is g, first-is g, rest-is g, t-is g) at (c .outward .ensures .1))
+    let g = c .before .before .before .before in (
+      rw (held (given {w = w32} (c .outward .ok))) (rw (first-is g, rest-is g, t-is g) at (c .outward .ensures .0)),
+      rw (mark-is g, first-is g, rest-is g, t-is g) at (c .outward .ensures .1),
+    )
 
 pub answer-spec : {M : Type 1} → statement M
 answer-spec =
