@@ -1,2 +1,3 @@
--- Laws of a formula's interval.
+-- Laws of a formula's interval, and of marks.
 pub mod IntervalLaws
+pub mod MarkLaws

@@ -2,6 +2,7 @@
 pub mod ReadingLaws
 pub mod AnswersInside
 pub mod SheetDistance
+pub mod ExactAnswers
 pub mod BothSides
 pub mod FewSteps
 pub mod WhichRefusals

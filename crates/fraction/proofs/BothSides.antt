@@ -31,27 +31,32 @@ fraction-negated s ws (suc k) x e =
 pub fraction-same : (s : ℕ) (ws : List ℤ) (k : ℕ) (x : ℤ) → fractionOf s 1 ws k (negℤ x) ≡ fractionOf s 1 ws k x
 fraction-same s ws k x = ap (λ (q : ℤ). outward s q q ws k (bAt ws k)) (product-same s x x)
 
--- ---- the marks. The square's, by mode and depth
+-- ---- the marks. The square's
 square-mark-same : (s mode k : ℕ) (x : ℤ) → squareExact s mode k (negℤ x) ≡ squareExact s mode k x
 square-mark-same s mode k x = ap (λ (e : Bool). cond (squareUsed mode k) e true) (product-sizes s (negℤ x) (negℤ x) x x (abs-neg x) (abs-neg x))
 
--- the outermost step's, by -v1, and the walk's
+-- the outermost step's, by -v1, and the walk's, of any depth
 step-mark-negated : (s : ℕ) (a w t : ℤ) → stepExact s a (negℤ w) t ≡ stepExact s a w t
 step-mark-negated s a w t =
     let g = productOf s a w in
-    ap₂ _&&_ (product-sizes s a (negℤ w) a w refl (abs-neg w)) (quotient-sizes s (productOf s a (negℤ w)) t g t (ap natAbs (product-odd-right s a w) ∙ abs-neg g) refl)
+    ap₂ _&&_
+    (product-sizes s a (negℤ w) a w refl (abs-neg w))
+    (quotient-sizes s (productOf s a (negℤ w)) t g t (ap natAbs (product-odd-right s a w) ∙ abs-neg g) refl)
 
 outward-mark-negated : (s : ℕ) (w rest : ℤ) (ws : List ℤ) (k : ℕ) (t : ℤ) → outwardExact s (negℤ w) rest ws k t ≡ outwardExact s w rest ws k t
 unfolding outwardExact
 outward-mark-negated s w rest ws zero t = refl
 outward-mark-negated s w rest ws (suc zero) t = ap (λ (e : Bool). e && true) (step-mark-negated s (aAfter ws 0) w t)
 outward-mark-negated s w rest ws (suc (suc k)) t =
-    ap (λ (e : Bool). stepExact s (aAfter ws (suc k)) rest t && e) (outward-mark-negated s w rest ws (suc k) (nextOf s (aAfter ws (suc k)) (bAt ws (suc k)) rest t))
+    let a = aAfter ws (suc k) in
+    ap (λ (e : Bool). stepExact s a rest t && e) (outward-mark-negated s w rest ws (suc k) (nextOf s a (bAt ws (suc k)) rest t))
 
 pub fraction-mark-negated : (s : ℕ) (ws : List ℤ) (k : ℕ) (x : ℤ) → fractionExact s 2 ws k (negℤ x) ≡ fractionExact s 2 ws k x
 fraction-mark-negated s ws k x =
-    let q = productOf s x x in
-    ap₂ _&&_ (square-mark-same s 2 k x) (ap (λ (r : ℤ). outwardExact s (negℤ x) r ws k (bAt ws k)) (product-same s x x) ∙ outward-mark-negated s x q ws k (bAt ws k))
+    let t = bAt ws k in
+    ap₂ _&&_
+    (square-mark-same s 2 k x)
+    (ap (λ (q : ℤ). outwardExact s (negℤ x) q ws k t) (product-same s x x) ∙ outward-mark-negated s x (productOf s x x) ws k t)
 
 pub fraction-mark-same : (s : ℕ) (ws : List ℤ) (k : ℕ) (x : ℤ) → fractionExact s 1 ws k (negℤ x) ≡ fractionExact s 1 ws k x
 fraction-mark-same s ws k x = ap₂ _&&_ (square-mark-same s 1 k x) (ap (λ (q : ℤ). outwardExact s q q ws k (bAt ws k)) (product-same s x x))

@@ -94,8 +94,8 @@ used-equals :
     → (i : ℕ)
     → i < k
     → Equals
-      (at (firstOf mode x (productOf s x x)) (restOf mode x (productOf s x x)) i)
-      (at (firstOf mode (whole x) (square s x)) (restOf mode (whole x) (square s x)) i)
+    (at (firstOf mode x (productOf s x x)) (restOf mode x (productOf s x x)) i)
+    (at (firstOf mode (whole x) (square s x)) (restOf mode (whole x) (square s x)) i)
 used-equals s zero k x e i h = at-equals x x (whole x) (whole x) i (whole-equals x) (whole-equals x)
 used-equals s (suc zero) k x e i h = let q = productOf s x x in at-equals q q (square s x) (square s x) i (square-equals s x e) (square-equals s x e)
 used-equals s (suc (suc m)) zero x e i h = absurd (omega arith)

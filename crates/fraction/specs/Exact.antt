@@ -11,17 +11,19 @@ use Rattle.word.specs.Words.{NotZero, unit, productOf}
 use Rattle.word.specs.Exact.{exactProduct, exactQuotient}
 use Rattle.fraction.specs.Fraction.{bAt, aAfter, at, firstOf, restOf, nextOf}
 
--- ---- the mark. One step: neither the product of a and v nor its quotient by t was rounded
+-- ---- the mark. One step: neither the product of a and v nor its quotient by t was rounded. A sum never is
 abbrev pub stepExact : ℕ → ℤ → ℤ → ℤ → Bool
 stepExact s a v t = exactProduct s a v && exactQuotient s (productOf s a v) t
 
 -- the walk of `outward`: every step
 unfoldable pub outwardExact : ℕ → ℤ → ℤ → List ℤ → ℕ → ℤ → Bool
 outwardExact s first rest ws zero t = true
-outwardExact s first rest ws (suc i) t = stepExact s (aAfter ws i) (at first rest i) t && outwardExact s first rest ws i (nextOf s (aAfter ws i) (bAt ws i) (at first rest i) t)
+outwardExact s first rest ws (suc i) t =
+    stepExact s (aAfter ws i) (at first rest i) t
+    && outwardExact s first rest ws i (nextOf s (aAfter ws i) (bAt ws i) (at first rest i) t)
 
--- whether the rule uses the square, by mode and depth: not in mode 0; in mode 1; in mode 2, where v1 is x, from depth 2 on. A coefficient 0 beside it
--- uses it too
+-- whether the rule uses the square, by mode and depth: not in mode 0; in mode 1; in mode 2, where v1 is x, from depth 2 on. Coefficients do not
+-- matter: 0 times the square uses it too
 abbrev pub squareUsed : ℕ → ℕ → Bool
 squareUsed zero k = false
 squareUsed (suc zero) k = true
@@ -31,7 +33,9 @@ abbrev pub squareExact : ℕ → ℕ → ℕ → ℤ → Bool
 squareExact s mode k x = cond (squareUsed mode k) (exactProduct s x x) true
 
 abbrev pub fractionExact : ℕ → ℕ → List ℤ → ℕ → ℤ → Bool
-fractionExact s mode ws k x = squareExact s mode k x && outwardExact s (firstOf mode x (productOf s x x)) (restOf mode x (productOf s x x)) ws k (bAt ws k)
+fractionExact s mode ws k x =
+    squareExact s mode k x
+    && outwardExact s (firstOf mode x (productOf s x x)) (restOf mode x (productOf s x x)) ws k (bAt ws k)
 
 -- ---- the exact value, in steps, as a fraction of whole numbers
 pub record Ratio : Type 0 where
@@ -60,14 +64,15 @@ fractionRatio s mode ws k x = outwardRatio (firstOf mode (whole x) (square s x))
 abbrev pub Equals : ℤ → Ratio → Type 0
 Equals z r = (z *ℤ r .bottom ≡ r .top) × NotZero (r .bottom)
 
--- ---- worked examples. Of a step: half of a step is rounded up to one, and that by one is exact; one by three; three by three
-steps :
+-- ---- worked examples. One step of the walk: a half times the smallest number is rounded, and what it gives by one is not; one by three is rounded;
+-- three by three is not, whichever factor is three
+one-step :
     (stepExact 24 (pos 8388608) (pos 1) (pos 16777216) ≡ false)
     × (stepExact 24 (pos 16777216) (pos 16777216) (pos 50331648) ≡ false)
     × (stepExact 24 (pos 50331648) (pos 16777216) (pos 50331648) ≡ true)
     × (stepExact 24 (pos 16777216) (pos 50331648) (negsuc 50331647) ≡ true)
 unfolding rounded
-steps = (refl, refl, refl, refl)
+one-step = (refl, refl, refl, refl)
 
 -- x/(1 - x²/3) at one, where a third is rounded, and at one and a half, where it is 6; with x for x², and with x² for x
 abbrev tangent : List ℤ
@@ -81,14 +86,14 @@ of-the-tangent :
 unfolding outwardExact rounded
 of-the-tangent = (refl, refl, refl, refl)
 
--- every step counts: here the inner one alone is rounded, though a1 is 0; here the outer one alone
+-- every step counts: here the inner one alone is rounded, beside an a1 of 0; here the outer one alone
 every-step :
     (fractionExact 24 0 (pos 0 ∷ pos 0 ∷ pos 16777216 ∷ pos 16777216 ∷ pos 50331648 ∷ []) 2 (pos 16777216) ≡ false)
     × (fractionExact 24 0 (pos 0 ∷ pos 16777216 ∷ pos 50331648 ∷ pos 0 ∷ pos 16777216 ∷ []) 2 (pos 16777216) ≡ false)
 unfolding outwardExact rounded
 every-step = (refl, refl)
 
--- 8,192 steps, whose square is 4 steps, times 2,048 are a step; the square times 2,048 is rounded. By the mode, for v1, and for v2
+-- which v: 2,048 times 8,192 is exact, and times the square of 8,192, which is 4, it is rounded. As v1, in modes 2 and 1; as v2, in modes 0 and 2
 first-v :
     (fractionExact 24 2 (pos 0 ∷ pos 2048 ∷ pos 16777216 ∷ pos 0 ∷ pos 16777216 ∷ []) 2 (pos 8192) ≡ true)
     × (fractionExact 24 1 (pos 0 ∷ pos 2048 ∷ pos 16777216 ∷ pos 0 ∷ pos 16777216 ∷ []) 2 (pos 8192) ≡ false)
@@ -112,7 +117,7 @@ used-by-shape :
     × (squareUsed 2 3 ≡ true)
 used-by-shape = (refl, refl, refl, refl, refl, refl, refl)
 
--- a step's square is rounded, and nothing else in x/(1 + 0·x/1): its mark is the square's where that is used, beside the 0 too
+-- the smallest number's square is rounded, and nothing else in x/(1 + 0·x/1), with any v's in place of x: the mark is the square's where that is used
 abbrev beside-zero : List ℤ
 beside-zero = pos 0 ∷ pos 16777216 ∷ pos 16777216 ∷ pos 0 ∷ pos 16777216 ∷ []
 
@@ -126,12 +131,12 @@ square-rounded :
 unfolding outwardExact rounded
 square-rounded = (refl, refl, refl, refl, refl, refl)
 
--- the square of 4,096 steps is a step
+-- the square of 4,096 is 1, exactly
 square-exact : (fractionExact 24 1 beside-zero 1 (pos 4096) ≡ true) × (fractionExact 24 2 beside-zero 2 (negsuc 4095) ≡ true)
 unfolding outwardExact rounded
 square-exact = (refl, refl)
 
--- a step times one, by one: at 16 places one is another, and at 28
+-- at 16 places one is another, and at 28: the smallest number times one, by one; and a square
 at-other-places :
     (fractionExact 16 0 (pos 0 ∷ pos 1 ∷ pos 65536 ∷ []) 1 (pos 65536) ≡ true)
     × (fractionExact 24 0 (pos 0 ∷ pos 1 ∷ pos 65536 ∷ []) 1 (pos 65536) ≡ false)
@@ -140,7 +145,7 @@ at-other-places :
 unfolding outwardExact rounded
 at-other-places = (refl, refl, refl, refl)
 
--- the tangent's at a half is 6/11, with x for x² 3/5, and with x² for x 3/11: in steps at four places, where one is 16
+-- the tangent's at a half is 6/11; with x for x² it is 3/5, with x² for x 3/11, and of depth 1 a half. At four places one is 16
 abbrev coarse : List ℤ
 coarse = pos 0 ∷ pos 16 ∷ pos 16 ∷ negsuc 15 ∷ pos 48 ∷ []
 

@@ -17,7 +17,7 @@ fn factor(i: usize, first: i32, rest: i32) -> i32
     if i == 0 { first } else { rest }
 }
 
-// b plus the quotient of (the product of a and v) by t.
+// b plus the quotient of (the product of a and v) by t, and the `loose` of both.
 fn next(a: i32, b: i32, v: i32, t: i32, s: u32) -> Marked
     requires { ⌜ StepReady s a b v t ⌝ }
     ensures word { λ r. ⌜ r .word ≡ nextOf s a b v t ⌝ }
@@ -30,10 +30,20 @@ fn next(a: i32, b: i32, v: i32, t: i32, s: u32) -> Marked
     Marked { word, loose }
 }
 
-// From t, the word at depth j, outward to the answer, over the m words from `at` on; `loose` is joined by that of each step. The remaining depth j
-// falls by one. The slice is handed on by a reference to it, and `loose` is lent: LLVM then makes a loop of the calls, while a slice or a struct would
-// be copied for each.
-fn outward(r: &&[u8], at: usize, m: usize, j: usize, t: i32, loose: &mut u64, first: i32, rest: i32, s: u32) -> i32
+// From t, the word at depth j, outward to the answer, over the m words from `at` on; each step's `loose` is joined to the one that is lent. The
+// remaining depth j falls by one. The slice is handed on by a reference to it, and `loose` is lent: LLVM then makes a loop of the calls, while a
+// slice, or a struct for the answer, would be copied for each.
+fn outward(
+    r: &&[u8],
+    at: usize,
+    m: usize,
+    j: usize,
+    t: i32,
+    loose: &mut u64,
+    first: i32,
+    rest: i32,
+    s: u32,
+) -> i32
     requires { ⌜ Stretch (now (now r)) at m × (at + 4 * m < 2 ^ 64) × OutwardReady s first rest (words (now (now r)) at m) j t ⌝ }
     ensures word { λ z. ⌜ z ≡ outward s first rest (words (now (now (r .entry))) at m) j t ⌝ }
     ensures mark { λ z. ⌜ wholeAt s (now (loose .exit)) ≡ (wholeAt s (now (loose .entry)) && outwardExact s first rest (words (now (now (r .entry))) at m) j t) ⌝ }
@@ -58,7 +68,7 @@ fn first_of(mode: u32, x: i32, q: i32) -> i32
     if mode == 1 { q } else { x }
 }
 
-// The other v's: x, or its square.
+// The other v's: x, or its square with its `loose`.
 fn rest_of(mode: u32, x: i32, s: u32) -> Marked
     requires { ⌜ Scale s × Word x × Word (restOf mode x (productOf s x x)) ⌝ }
     ensures word { λ r. ⌜ r .word ≡ restOf mode x (productOf s x x) ⌝ }
@@ -69,10 +79,13 @@ fn rest_of(mode: u32, x: i32, s: u32) -> Marked
     }
     let q = word::product(x, x, s);
     let word = q.value as i32;
-    Marked { word, loose: q.loose }
+    Marked {
+        word,
+        loose: q.loose,
+    }
 }
 
-// What of the square's `loose` counts: all of it where the rule uses the square, which in mode 2 is from depth 2 on.
+// What of the square's `loose` counts: all of it where the rule uses the square, in mode 2 from depth 2 on.
 fn counted(mode: u32, k: usize, loose: u64) -> u64
     ensures { λ r. ⌜ r ≡ cond (squareUsed mode k) loose 0 ⌝ }
 {
@@ -83,7 +96,7 @@ fn counted(mode: u32, k: usize, loose: u64) -> u64
     }
 }
 
-// The fraction of depth k at x.
+// The fraction of depth k at x, and the `loose` of all that it uses.
 pub fn answer(b: &[u8], at: usize, k: usize, mode: u32, x: i32, s: u32) -> Marked
     requires { ⌜ Stretch (now b) at (k + k + 1) × FractionReady s mode (words (now b) at (k + k + 1)) k x ⌝ }
     ensures word { λ r. ⌜ r .word ≡ fractionOf s mode (words (now (b .entry)) at (k + k + 1)) k x ⌝ }

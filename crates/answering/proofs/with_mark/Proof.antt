@@ -6,13 +6,13 @@ use Rattle.answering.specs.Answering.{answered, withMark}
 use Rattle.answering.proofs.with_mark.Statement.{statement}
 use Rattle.answering.proofs.with_mark.Tie as tie
 
-fits-word : (c : tie.After-struct-told) → SFits w32 (c .before .before .e .given .0 .0 .word)
+fits-word : (c : tie.After-struct-told) → SFits w32 (c .before .before .before .e .given .0 .0 .word)
 fits-word c = search (needs, c .struct-told .given)
 
 returns : tie.Need-returns
 returns c =
-    let e = c .before .before .e .given in
-    let exact = c .before .before .before .before .args .exact in
+    let e = c .before .before .before .e .given in
+    let exact = c .before .before .before .before .before .args .exact in
     ap (λ (z : ℤ). answered z (e .0 .0 .steps) (exact && e .0 .0 .exact)) (held (arg {w = w32} {x = e .0 .0 .word} (fits-word c))) ∙ ap (withMark exact) (sym (e .1))
 
 returns-2 : tie.Need-returns-2

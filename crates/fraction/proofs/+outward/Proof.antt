@@ -1,13 +1,14 @@
 -- `fraction::outward` meets its contract: one step, and the walk from there on, with the marks joined. The depth j falls.
-use Rattle.whole.proofs.Basics.{_≡_, _∙_, refl, ap, Bool, List, ℕ, suc, _+_, _-_, _≤_, _<_, arith, ℤ, w32, needs}
+use Rattle.whole.proofs.Basics.{_≡_, _∙_, refl, Bool, List, ℕ, suc, _+_, _-_, _≤_, _<_, arith, ℤ, w32, needs}
 use mathlib.Core.Bool.{_&&_}
+use lib.Bits.{bitOr}
 use Rattle.whole.proofs.Fit.{fit-abs}
 use Rattle.whole.proofs.Held.{back, held, arg, known, given}
 use Rattle.word.specs.Exact.{wholeAt}
 use Rattle.stored.specs.Words.{words}
 use Rattle.stored.proofs.WordsLaws.{length-words}
 use Rattle.fraction.specs.Fraction.{bAt, aAfter, at, nextOf, outward as outward-of}
-use Rattle.fraction.specs.Exact.{stepExact, outwardExact}
+use Rattle.fraction.specs.Exact.{stepExact}
 use Rattle.fraction.specs.Ready.{StepReady, OutwardReady}
 use Rattle.fraction.proofs.WalkLaws.{b-is, a-is, step-ready, next-ready}
 use Rattle.fraction.proofs.ExactWalk.{exact-done, exact-step, or-marks}
@@ -41,25 +42,49 @@ module _ (n : ℕ) where
     abbrev S : ℕ
     S = c .before .args .s
 
+    abbrev bytes : List ℕ
+    bytes = c .before .args .r .now .now
+
     abbrev ws : List ℤ
-    ws = words (c .before .args .r .now .now) (c .before .args .at) (c .before .args .m)
+    ws = words bytes (c .before .args .at) (c .before .args .m)
 
     abbrev i : ℕ
     i = c .before .args .j - 1
+
+    abbrev first : ℤ
+    first = c .before .args .first
+
+    abbrev rest : ℤ
+    rest = c .before .args .rest
+
+    abbrev t : ℤ
+    t = c .before .args .t
+
+    abbrev v : ℤ
+    v = at first rest i
+
+    abbrev before : ℕ
+    before = c .before .args .loose .now
 
     depth : c .before .args .j ≡ suc i
     depth = omega (arith, c .if1 .left)
 
     inside : i + i + 2 ≤ c .before .args .m
-    inside = omega (arith, depth, c .before .pre .1 .2 .room, length-words (c .before .args .r .now .now) (c .before .args .at) (c .before .args .m))
+    inside = omega (arith, depth, c .before .pre .1 .2 .room, length-words bytes (c .before .args .at) (c .before .args .m))
 
-    ready : OutwardReady S (c .before .args .first) (c .before .args .rest) ws (suc i) (c .before .args .t)
+    ready : OutwardReady S first rest ws (suc i) t
     ready = rw depth at (c .before .pre .1 .2)
 
-    now-step : StepReady S (aAfter ws i) (bAt ws i) (at (c .before .args .first) (c .before .args .rest) i) (c .before .args .t)
-    now-step = step-ready S (c .before .args .first) (c .before .args .rest) ws i (c .before .args .t) ready
+    now-step : StepReady S (aAfter ws i) (bAt ws i) v t
+    now-step = step-ready S first rest ws i t ready
 
-    t-is : back w32 (c .before .args .t) ≡ c .before .args .t
+    first-is : back w32 first ≡ first
+    first-is = held (arg (c .before .fits .first))
+
+    rest-is : back w32 rest ≡ rest
+    rest-is = held (arg (c .before .fits .rest))
+
+    t-is : back w32 t ≡ t
     t-is = held (arg (c .before .fits .t))
 
   -- ---- the operands of `next`, as they are read
@@ -71,13 +96,17 @@ module _ (n : ℕ) where
     d = turn .before
 
     a-read : back w32 (c .before .before .get-word .result) ≡ aAfter (ws turn) (i turn)
-    a-read = held {w = w32} (known (c .before .before .get-word .ensures ∙ a-is (d .args .r .now .now) (d .args .at) (d .args .m) (i turn) (omega (arith, inside turn))) (fit-abs (omega (arith, now-step turn .a-word))))
+    a-read =
+        let e = c .before .before .get-word .ensures ∙ a-is (bytes turn) (d .args .at) (d .args .m) (i turn) (omega (arith, inside turn)) in
+        held {w = w32} (known e (fit-abs (omega (arith, now-step turn .a-word))))
 
     b-read : back w32 (c .before .get-word2 .result) ≡ bAt (ws turn) (i turn)
-    b-read = held {w = w32} (known (c .before .get-word2 .ensures ∙ b-is (d .args .r .now .now) (d .args .at) (d .args .m) (i turn) (omega (arith, inside turn))) (fit-abs (omega (arith, now-step turn .b-word))))
+    b-read =
+        let e = c .before .get-word2 .ensures ∙ b-is (bytes turn) (d .args .at) (d .args .m) (i turn) (omega (arith, inside turn)) in
+        held {w = w32} (known e (fit-abs (omega (arith, now-step turn .b-word))))
 
-    v-is : back w32 (c .factor .result) ≡ at (d .args .first) (d .args .rest) (i turn)
-    v-is = held {w = w32} (known (rw (held (arg (d .fits .first)), held (arg (d .fits .rest))) at (c .factor .ensures)) (fit-abs (omega (arith, now-step turn .v-word))))
+    v-is : back w32 (c .factor .result) ≡ v turn
+    v-is = held {w = w32} (known (rw (first-is turn, rest-is turn) at (c .factor .ensures)) (fit-abs (omega (arith, now-step turn .v-word))))
 
   -- ---- and the word at depth j - 1, with the mark of the step to it
   module _ (c : outward-lts.After-next (calls n) (outward-at n) outward.Post) where
@@ -85,20 +114,29 @@ module _ (n : ℕ) where
     step = turn (c .before)
 
     abbrev u : ℤ
-    u = nextOf (S step) (aAfter (ws step) (i step)) (bAt (ws step) (i step)) (at (step .before .args .first) (step .before .args .rest) (i step)) (step .before .args .t)
+    u = nextOf (S step) (aAfter (ws step) (i step)) (bAt (ws step) (i step)) (v step) (t step)
 
     u-is : back w32 (c .next .result .word) ≡ u
-    u-is = held {w = w32} (known (rw (a-read (c .before), b-read (c .before), v-is (c .before), t-is step) at (c .next .ensures .0)) (fit-abs (omega (arith, now-step step .sum))))
+    u-is =
+        let e = rw (a-read (c .before), b-read (c .before), v-is (c .before), t-is step) at (c .next .ensures .0) in
+        held {w = w32} (known e (fit-abs (omega (arith, now-step step .sum))))
 
-    mark-is : wholeAt (S step) (c .next .result .loose) ≡ stepExact (S step) (aAfter (ws step) (i step)) (at (step .before .args .first) (step .before .args .rest) (i step)) (step .before .args .t)
+    abbrev exact : Bool
+    exact = stepExact (S step) (aAfter (ws step) (i step)) (v step) (t step)
+
+    mark-is : wholeAt (S step) (c .next .result .loose) ≡ exact
     mark-is = rw (a-read (c .before), v-is (c .before), t-is step) at (c .next .ensures .1)
+
+    joined : wholeAt (S step) (bitOr (before step) (c .next .result .loose)) ≡ (wholeAt (S step) (before step) && exact)
+    joined = or-marks (S step) (before step) (c .next .result .loose) _ _ refl mark-is
 
   returns : outward-lts.Need-returns (calls n) (outward-at n) outward.Post
   unfolding outward-of
   returns c =
       let d = c .before in
-      let ws = words (d .args .r .now .now) (d .args .at) (d .args .m) in
-      rw (c .if1 .taken) (held (arg (d .fits .t)), exact-done (wholeAt (d .args .s) (d .args .loose .now)) (d .args .s) (d .args .first) (d .args .rest) ws (d .args .t))
+      let a = d .args in
+      let ws = words (a .r .now .now) (a .at) (a .m) in
+      rw (c .if1 .taken) (held (arg (d .fits .t)), exact-done (wholeAt (a .s) (a .loose .now)) (a .s) (a .first) (a .rest) ws (a .t))
 
   next-requires : outward-lts.Need-next-requires (calls n) (outward-at n) outward.Post
   next-requires c κs = rw (a-read c, b-read c, v-is c, t-is (turn c)) (now-step (turn c))
@@ -107,21 +145,18 @@ module _ (n : ℕ) where
   outward-requires c κs =
       let x = c .before .before .before .before in
       let e = step x in
-      let a = e .before .args in
-      (omega (arith, e .before .pre .0, depth e), (e .before .pre .1 .0, e .before .pre .1 .1, rw (held (arg (e .before .fits .first)), held (arg (e .before .fits .rest)), u-is x) (next-ready (S e) (a .first) (a .rest) (ws e) (i e) (a .t) (ready e))))
+      let p = e .before .pre in
+      let onward = next-ready (S e) (first e) (rest e) (ws e) (i e) (t e) (ready e) in
+      (omega (arith, p .0, depth e), (p .1 .0, p .1 .1, rw (first-is e, rest-is e, u-is x) onward))
 
   returns-2 : outward-lts.Need-returns-2 (calls n) (outward-at n) outward.Post
   unfolding outward-of
   returns-2 c =
       let x = c .before .before .before .before .before in
       let e = step x in
-      let a = e .before .args in
-      let before = wholeAt (S e) (a .loose .now) in (
-        rw (held (given {w = w32} (c .outward .ok)), depth e) (rw (held (arg (e .before .fits .first)), held (arg (e .before .fits .rest)), u-is x) at (c .outward .ensures .0)),
-        rw (depth e) (
-            (rw (held (arg (e .before .fits .first)), held (arg (e .before .fits .rest)), u-is x) at (c .outward .ensures .1))
-            ∙ ap (λ (y : Bool). y && outwardExact (S e) (a .first) (a .rest) (ws e) (i e) (u x)) (or-marks (S e) (a .loose .now) (x .next .result .loose) before _ refl (mark-is x))
-            ∙ exact-step before (S e) (a .first) (a .rest) (ws e) (i e) (a .t)),
+      let onward = rw (joined x, first-is e, rest-is e, u-is x) at (c .outward .ensures .1) in (
+        rw (held (given {w = w32} (c .outward .ok)), depth e) (rw (first-is e, rest-is e, u-is x) at (c .outward .ensures .0)),
+        rw (depth e) (onward ∙ exact-step (wholeAt (S e) (before e)) (S e) (first e) (rest e) (ws e) (i e) (t e)),
       )
 
 pub +outward-spec : {M : Type 1} → statement M

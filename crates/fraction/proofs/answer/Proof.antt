@@ -51,15 +51,19 @@ module _ (c : tie.After-get-word) where
   rest-is = held {w = w32} (known (rw (x-is start) at (of-square .rest-of .ensures .0)) (fit-abs (omega (arith, ready start .rest-word))))
 
   first-is : back w32 (c .before .before .first-of .result) ≡ firstOf (mode start) (x start) (square start)
-  first-is = held {w = w32} (known (rw (x-is start, rest-is) at (c .before .before .first-of .ensures) ∙ first-rest (x start) (square start) (mode start)) (fit-abs (omega (arith, ready start .first-word))))
+  first-is =
+      let e = rw (x-is start, rest-is) at (c .before .before .first-of .ensures) ∙ first-rest (x start) (square start) (mode start) in
+      held {w = w32} (known e (fit-abs (omega (arith, ready start .first-word))))
 
   t-is : back w32 (c .get-word .result) ≡ bAt (ws start) (k start)
-  t-is = held {w = w32} (known (c .get-word .ensures ∙ b-is (start .args .b .now) (start .args .at) (k start + k start + 1) (k start) (omega arith)) (fit-abs (omega (arith, ready start .t-word))))
+  t-is =
+      let e = c .get-word .ensures ∙ b-is (start .args .b .now) (start .args .at) (k start + k start + 1) (k start) (omega arith) in
+      held {w = w32} (known e (fit-abs (omega (arith, ready start .t-word))))
 
   mark-is : wholeAt (S start) (c .before .counted .result) ≡ squareExact (S start) (mode start) (k start) (x start)
   mark-is =
-      ap (wholeAt (S start)) (c .before .counted .ensures)
-      ∙ square-mark (S start) (mode start) (k start) (of-square .rest-of .result .loose) (x start) (rw (x-is start) at (of-square .rest-of .ensures .1))
+      let e = rw (x-is start) at (of-square .rest-of .ensures .1) in
+      ap (wholeAt (S start)) (c .before .counted .ensures) ∙ square-mark (S start) (mode start) (k start) (of-square .rest-of .result .loose) (x start) e
 
 rest-of-requires : tie.Need-rest-of-requires
 rest-of-requires c κs =

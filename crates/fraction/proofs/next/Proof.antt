@@ -19,7 +19,8 @@ module _ (c : tie.After-product) where
   held-g : Held w32 (back w64 (c .product .result .value)) term
   held-g =
       let d = c .before in
-      cast {w = w64} (known (c .product .ensures .0 ∙ ap₂ (productOf S) (held (arg (d .fits .a))) (held (arg (d .fits .v)))) (fit-abs (omega (arith, d .pre .term)))) (fit-abs (omega (arith, d .pre .term)))
+      let e = c .product .ensures .0 ∙ ap₂ (productOf S) (held (arg (d .fits .a))) (held (arg (d .fits .v))) in
+      cast {w = w64} (known e (fit-abs (omega (arith, d .pre .term)))) (fit-abs (omega (arith, d .pre .term)))
 
   mark-g : wholeAt S (c .product .result .loose) ≡ exactProduct S (c .before .args .a) (c .before .args .v)
   mark-g = let d = c .before in c .product .ensures .1 ∙ ap₂ (exactProduct S) (held (arg (d .fits .a))) (held (arg (d .fits .v)))
@@ -36,10 +37,8 @@ module _ (c : tie.After-quotient) where
 
   held-sum : Held w64 (back w64 (back w32 (start .args .b)) +ℤ back w64 (c .quotient .result .value)) sum
   held-sum =
-      plus
-      (wider tt (arg (start .fits .b)))
-      (known (c .quotient .ensures .0 ∙ ap₂ (quotientOf (start .args .s)) (held (held-g product)) (held (arg (start .fits .t)))) (fit-abs (omega (arith, start .pre .ratio))))
-      (fit-abs (omega (arith, start .pre .sum)))
+      let e = c .quotient .ensures .0 ∙ ap₂ (quotientOf (start .args .s)) (held (held-g product)) (held (arg (start .fits .t))) in
+      plus (wider tt (arg (start .fits .b))) (known e (fit-abs (omega (arith, start .pre .ratio)))) (fit-abs (omega (arith, start .pre .sum)))
 
   held-next : Held w32 (back w64 (back w64 (back w32 (start .args .b)) +ℤ back w64 (c .quotient .result .value))) sum
   held-next = cast held-sum (fit-abs (omega (arith, start .pre .sum)))
@@ -48,7 +47,7 @@ module _ (c : tie.After-quotient) where
   mark-q = c .quotient .ensures .1 ∙ ap₂ (exactQuotient (start .args .s)) (held (held-g product)) (held (arg (start .fits .t)))
 
 product-requires : tie.Need-product-requires
-product-requires c κs = (c .pre .scale, subst Word (sym (held (arg (c .fits .a)))) (c .pre .a-word), subst Word (sym (held (arg (c .fits .v)))) (c .pre .v-word))
+product-requires c κs = rw (held (arg (c .fits .a)), held (arg (c .fits .v))) (c .pre .scale, c .pre .a-word, c .pre .v-word)
 
 quotient-requires : tie.Need-quotient-requires
 quotient-requires c κs =

@@ -29,7 +29,9 @@ module _ (c : tie.After-product) where
   square-word = rw (rest-is, ne-eqb _ _ (c .before .if1 .left)) at (start .pre .2)
 
   held-square : Held w32 (back w64 (c .product .result .value)) (productOf (start .args .s) (start .args .x) (start .args .x))
-  held-square = cast {w = w64} (known (rw (x-is start) at (c .product .ensures .0)) (fit-abs (omega (arith, square-word)))) (fit-abs (omega (arith, square-word)))
+  held-square =
+      let e = rw (x-is start) at (c .product .ensures .0) in
+      cast {w = w64} (known e (fit-abs (omega (arith, square-word)))) (fit-abs (omega (arith, square-word)))
 
   mark-square : wholeAt (start .args .s) (c .product .result .loose) ≡ exactProduct (start .args .s) (start .args .x) (start .args .x)
   mark-square = rw (x-is start) at (c .product .ensures .1)
