@@ -5,7 +5,7 @@ use Rattle.word.specs.Words.{NotZero}
 use Rattle.word.specs.Lists.{All}
 use Rattle.root.proofs.RootLaws.{root-exact}
 use Rattle.polynomial.proofs.ExactAnswer.{exact-answer-written-out}
-use Rattle.odd_even.proofs.ExactAnswer.{odd-exact, even-exact}
+use Rattle.odd_even.proofs.ExactAnswer.{odd-exact, even-exact, odd-at-zero}
 use Rattle.rational.proofs.ExactAnswer.{rational-exact}
 use Rattle.fraction.proofs.ExactAnswer.{fraction-exact}
 use Rattle.formula.specs.Formula.{answerBy, answerOf, divisorsBy, Counted, wordCount, Answerable}
@@ -33,3 +33,7 @@ exact-by NoFormula s p q mode ws x counts room apart t = absurd counts
 
 pub formula-exact : (s : ℕ) (h : Shape) (ws : List ℤ) (x : ℤ) → Answerable s h ws x → exactOf s h ws x ≡ true → ValueOf s h ws x (answerOf s h ws x)
 formula-exact s h ws x a t = exact-by (h .kind) s (h .p) (h .q) (h .mode) ws x (a .sound .counts) (a .sound .room) (formula-stays s h ws x a .1) t
+
+-- at 0 an odd formula's answer is exact, whatever is stored
+pub odd-zero-exact : (s : ℕ) (h : Shape) (ws : List ℤ) → h .kind ≡ Odd → exactOf s h ws (pos 0) ≡ true
+odd-zero-exact s h ws e = rw e (odd-at-zero s (take (h .p) ws))

@@ -37,7 +37,7 @@ fractionExact s mode ws k x =
     squareExact s mode k x
     && outwardExact s (firstOf mode x (productOf s x x)) (restOf mode x (productOf s x x)) ws k (bAt ws k)
 
--- ---- the exact value, in steps, as a fraction of whole numbers
+-- ---- the exact value, in steps of 2^-s, as a fraction of whole numbers
 pub record Ratio : Type 0 where
   pub top : ℤ
   pub bottom : ℤ
@@ -64,7 +64,7 @@ fractionRatio s mode ws k x = outwardRatio (firstOf mode (whole x) (square s x))
 abbrev pub Equals : ℤ → Ratio → Type 0
 Equals z r = (z *ℤ r .bottom ≡ r .top) × NotZero (r .bottom)
 
--- ---- worked examples. One step of the walk: a half times the smallest number is rounded, and what it gives by one is not; one by three is rounded;
+-- ---- worked examples. One step of the walk: a half times the smallest number is rounded, and its quotient by one is not; one by three is rounded;
 -- three by three is not, whichever factor is three
 one-step :
     (stepExact 24 (pos 8388608) (pos 1) (pos 16777216) ≡ false)
@@ -86,14 +86,21 @@ of-the-tangent :
 unfolding outwardExact rounded
 of-the-tangent = (refl, refl, refl, refl)
 
--- every step counts: here the inner one alone is rounded, beside an a1 of 0; here the outer one alone
+-- what is divided by has the mode's v's too: x/(1 - x²) at a half is two thirds, and x/(1 - x) is one
+two-thirds :
+    (fractionExact 24 2 (pos 0 ∷ pos 16777216 ∷ pos 16777216 ∷ negsuc 16777215 ∷ pos 16777216 ∷ []) 2 (pos 8388608) ≡ false)
+    × (fractionExact 24 0 (pos 0 ∷ pos 16777216 ∷ pos 16777216 ∷ negsuc 16777215 ∷ pos 16777216 ∷ []) 2 (pos 8388608) ≡ true)
+unfolding outwardExact rounded
+two-thirds = (refl, refl)
+
+-- every step counts: here the inner one alone is rounded, though an a1 of 0 leaves nothing of it in the answer; here the outer one alone
 every-step :
     (fractionExact 24 0 (pos 0 ∷ pos 0 ∷ pos 16777216 ∷ pos 16777216 ∷ pos 50331648 ∷ []) 2 (pos 16777216) ≡ false)
     × (fractionExact 24 0 (pos 0 ∷ pos 16777216 ∷ pos 50331648 ∷ pos 0 ∷ pos 16777216 ∷ []) 2 (pos 16777216) ≡ false)
 unfolding outwardExact rounded
 every-step = (refl, refl)
 
--- which v: 2,048 times 8,192 is exact, and times the square of 8,192, which is 4, it is rounded. As v1, in modes 2 and 1; as v2, in modes 0 and 2
+-- which v, in steps: 2,048 times 8,192 is exact, and times the square of 8,192, which is 4, it is rounded. As v1, in modes 2 and 1; as v2, in modes 0 and 2
 first-v :
     (fractionExact 24 2 (pos 0 ∷ pos 2048 ∷ pos 16777216 ∷ pos 0 ∷ pos 16777216 ∷ []) 2 (pos 8192) ≡ true)
     × (fractionExact 24 1 (pos 0 ∷ pos 2048 ∷ pos 16777216 ∷ pos 0 ∷ pos 16777216 ∷ []) 2 (pos 8192) ≡ false)
@@ -117,7 +124,7 @@ used-by-shape :
     × (squareUsed 2 3 ≡ true)
 used-by-shape = (refl, refl, refl, refl, refl, refl, refl)
 
--- the smallest number's square is rounded, and nothing else in x/(1 + 0·x/1), with any v's in place of x: the mark is the square's where that is used
+-- in v1/(1 + 0·v2/1) at the smallest number above 0 nothing is rounded but its square: the mark is the square's where that is used
 abbrev beside-zero : List ℤ
 beside-zero = pos 0 ∷ pos 16777216 ∷ pos 16777216 ∷ pos 0 ∷ pos 16777216 ∷ []
 
@@ -131,19 +138,20 @@ square-rounded :
 unfolding outwardExact rounded
 square-rounded = (refl, refl, refl, refl, refl, refl)
 
--- the square of 4,096 is 1, exactly
+-- in steps, the square of 4,096 is 1
 square-exact : (fractionExact 24 1 beside-zero 1 (pos 4096) ≡ true) × (fractionExact 24 2 beside-zero 2 (negsuc 4095) ≡ true)
 unfolding outwardExact rounded
 square-exact = (refl, refl)
 
--- at 16 places one is another, and at 28: the smallest number times one, by one; and a square
+-- at 16 places one is another, and at 28: the smallest number times one, by one; three times it; half of it; and the square of 256 steps
 at-other-places :
     (fractionExact 16 0 (pos 0 ∷ pos 1 ∷ pos 65536 ∷ []) 1 (pos 65536) ≡ true)
     × (fractionExact 24 0 (pos 0 ∷ pos 1 ∷ pos 65536 ∷ []) 1 (pos 65536) ≡ false)
-    × (fractionExact 28 0 (pos 0 ∷ pos 1 ∷ pos 16777216 ∷ []) 1 (pos 16777216) ≡ false)
+    × (fractionExact 28 0 (pos 0 ∷ pos 3 ∷ pos 268435456 ∷ []) 1 (pos 268435456) ≡ true)
+    × (fractionExact 28 0 (pos 0 ∷ pos 1 ∷ pos 536870912 ∷ []) 1 (pos 268435456) ≡ false)
     × (fractionExact 16 2 (pos 0 ∷ pos 0 ∷ pos 65536 ∷ pos 0 ∷ pos 65536 ∷ []) 2 (pos 256) ≡ true)
 unfolding outwardExact rounded
-at-other-places = (refl, refl, refl, refl)
+at-other-places = (refl, refl, refl, refl, refl)
 
 -- the tangent's at a half is 6/11; with x for x² it is 3/5, with x² for x 3/11, and of depth 1 a half. At four places one is 16
 abbrev coarse : List ℤ

@@ -1,6 +1,6 @@
 -- An even or odd answer that is marked exact is the exact value: of the polynomial at x², and of x times that. Where the square is exact, q·2^s is x·x, so
 -- the polynomial's exact sum at q is the one at x·x with twice the places; with one coefficient no square is in it.
-use Rattle.whole.proofs.Basics.{_≡_, _∙_, refl, sym, ap, ap₂, subst, true, List, [], _∷_, ℕ, suc, _+_, _*_, _^_, arith, length, ℤ, pos, _+ℤ_, _*ℤ_, lt-ltb}
+use Rattle.whole.proofs.Basics.{_≡_, _∙_, refl, sym, ap, ap₂, subst, Bool, true, false, cond, List, [], _∷_, ℕ, suc, _+_, _*_, _^_, arith, length, ltb, ℤ, pos, _+ℤ_, _*ℤ_, lt-ltb}
 use mathlib.Core.Bool.{_&&_}
 use native.Mathlib.Nat.{pow-zero, pow-suc}
 use lib.Pow.{pow-add}
@@ -8,10 +8,12 @@ use Rattle.whole.proofs.Diff.{v, n, _⊕_, _⊗_, same}
 use Rattle.whole.proofs.Ring.{ring, var, _:+_, _:*_}
 use Rattle.word.specs.Words.{unit, productOf}
 use Rattle.word.specs.Exact.{exactProduct}
-use Rattle.word.proofs.ExactLaws.{product-exact, both}
+use Rattle.word.proofs.WordLaws.{product-zero}
+use Rattle.word.proofs.ExactLaws.{product-exact, exact-zero, exact-by-zero, both}
 use Rattle.polynomial.specs.Polynomial.{horner}
 use Rattle.polynomial.specs.Exact.{polynomialExact}
 use Rattle.polynomial.specs.Distance.{exact, exactSum}
+use Rattle.polynomial.proofs.ExactWalk.{exact-at-zero}
 use Rattle.polynomial.proofs.ExactAnswer.{exact-answer}
 use Rattle.polynomial.proofs.SumLaws.{unit-pow, exact-is}
 use Rattle.odd_even.specs.OddEven.{squareOf, evenOf, oddOf}
@@ -87,3 +89,17 @@ pub odd-exact : (s : ℕ) (ws : List ℤ) (m : ℕ) (x : ℤ) → length ws ≡ 
 odd-exact s ws m x e t =
     let b = both (evenExact s ws x) (exactProduct s (evenOf s ws x) x) t in
     last (oddOf s ws x) (evenOf s ws x) x (evenValue s ws m x) (2 ^ s) (2 ^ ((s + s) * m)) (product-exact s (evenOf s ws x) x (b .1)) (even-exact s ws m x e (b .0))
+
+-- ---- at 0 nothing is rounded
+counts-or-not : (b t : Bool) → t ≡ true → cond b t true ≡ true
+counts-or-not true t e = e
+counts-or-not false t e = refl
+
+even-at-zero : (s : ℕ) (ws : List ℤ) → evenExact s ws (pos 0) ≡ true
+even-at-zero s ws =
+    ap₂ _&&_
+    (counts-or-not (ltb 1 (length ws)) (exactProduct s (pos 0) (pos 0)) (exact-zero s (pos 0)))
+    (ap (polynomialExact s ws) (product-zero s (pos 0)) ∙ exact-at-zero s ws)
+
+pub odd-at-zero : (s : ℕ) (ws : List ℤ) → oddExact s ws (pos 0) ≡ true
+odd-at-zero s ws = ap₂ _&&_ (even-at-zero s ws) (exact-by-zero s (evenOf s ws (pos 0)))

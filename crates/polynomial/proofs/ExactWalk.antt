@@ -1,10 +1,10 @@
--- The mark from the last coefficient down, as a loop meets it.
-use Rattle.whole.proofs.Basics.{_≡_, _∙_, ap, true, List, [], _∷_, ℕ, suc, _-_, _<_, arith, length, drop, getD, ℤ, pos}
+-- The mark from the last coefficient down, as a loop meets it; and that at 0 nothing is rounded.
+use Rattle.whole.proofs.Basics.{_≡_, _∙_, refl, ap, ap₂, true, List, [], _∷_, ℕ, suc, _-_, _<_, arith, length, drop, getD, ℤ, pos}
 use mathlib.Core.Bool.{_&&_}
 use lib.ListN.{drop-of-length-le}
 use lib.Seq.{drop-cons}
 use Rattle.word.specs.Exact.{exactProduct}
-use Rattle.word.proofs.ExactLaws.{exact-zero}
+use Rattle.word.proofs.ExactLaws.{exact-zero, exact-by-zero}
 use Rattle.polynomial.specs.Polynomial.{horner}
 use Rattle.polynomial.specs.Exact.{polynomialExact}
 
@@ -21,3 +21,8 @@ exact-last s ws x h =
     let last = length ws - 1 in
     ap (λ (l : List ℤ). polynomialExact s l x) (drop-cons ws last (pos 0) (omega arith) ∙ ap (λ (l : List ℤ). getD ws last (pos 0) ∷ l) (drop-of-length-le ws {i = suc last} (omega arith)))
     ∙ exact-one s (getD ws last (pos 0)) x
+
+pub exact-at-zero : (s : ℕ) (ws : List ℤ) → polynomialExact s ws (pos 0) ≡ true
+unfolding polynomialExact
+exact-at-zero s [] = refl
+exact-at-zero s (c ∷ cs) = ap₂ _&&_ (exact-at-zero s cs) (exact-by-zero s (horner s cs (pos 0)))

@@ -6,4 +6,5 @@ pub mod EveryAngle
 pub mod Symmetries
 pub mod WhichRefusals
 pub mod NoSteps
+pub mod ExactAngles
 pub mod Settled

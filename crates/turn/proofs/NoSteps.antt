@@ -12,7 +12,7 @@ module _ (s : ℕ) (bytes : List ℕ) (n : ℕ) where
       at : ThreeWays s bytes n (sineOf s bytes n a) → evaluationSteps (sineOf s bytes n a) ≡ 0
       at (inl (r, e, q)) = ap evaluationSteps q
       at (inr (inl q)) = ap evaluationSteps q
-      at (inr (inr (w, q))) = ap evaluationSteps q
+      at (inr (inr (has, (w, t, q)))) = ap evaluationSteps q
 
   pub cosine-no-steps : (a : ℕ) → evaluationSteps (cosineOf s bytes n a) ≡ 0
   cosine-no-steps a = sine-no-steps (angleSum a quarterTurn)

@@ -19,7 +19,7 @@ module _ (s : ℕ) (bytes : List ℕ) (n : ℕ) where
       at (inl (r, e, q)) (inl g) = let z : Withheld r ≡ Given = sym e ∙ g in absurd (let y : _≡_ {A = ℕ} 0 1 = cc in omega arith)
       at (inl (r, e, q)) (inr h) = rw q (inr (inr (subst (λ (i : Found). OneOf readerRefusals (foundNumber i)) e h)))
       at (inr (inl q)) k = inr (inl (ap evaluationNumber q))
-      at (inr (inr (w, q))) k = inl (_, q)
+      at (inr (inr (has, (w, t, q)))) k = inl (_, q)
 
   pub cosine-refusals : (a : ℕ) → AnswerOr sineRefusals (cosineOf s bytes n a)
   cosine-refusals a = sine-refusals (angleSum a quarterTurn)

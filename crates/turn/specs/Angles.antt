@@ -1,11 +1,12 @@
 -- An angle is counted in parts of a turn, 2^32 to the whole. The argument that it gives has s binary places.
 use mathlib.Core.Path.{_≡_, refl}
-use mathlib.Core.Bool.{cond}
+use mathlib.Core.Bool.{Bool, true, false, cond}
 use Prim.Native.Nat.{ℕ, _+_, _-_, _/_, _%_, _^_, _<_}
 use native.Mathlib.Omega.{arith}
 use lib.Dec.{eqb, lit≤}
 use lib.IntN.{ℤ, pos}
 use Rattle.word.specs.Rounded.{rounded}
+use Rattle.word.specs.Exact.{divides}
 
 abbrev pub wholeTurn : ℕ
 wholeTurn = 2 ^ 32
@@ -44,6 +45,13 @@ argumentIn s quarter f = rounded (pos (foldedIn quarter f)) (2 ^ (30 - s))
 
 abbrev pub argumentOf : ℕ → ℕ → ℤ
 argumentOf s a = argumentIn s (quarterOf a) (restOf a)
+
+-- it is exact where that division leaves nothing: then it is the angle's own part of a quarter
+abbrev pub exactIn : ℕ → ℕ → ℕ → Bool
+exactIn s quarter f = divides (2 ^ (30 - s)) (pos (foldedIn quarter f))
+
+abbrev pub exactArgument : ℕ → ℕ → Bool
+exactArgument s a = exactIn s (quarterOf a) (restOf a)
 
 -- ---- worked examples. The turn and its parts; the last angle, and the number beyond it
 turns : (wholeTurn ≡ 0x100000000) × (halfTurn ≡ 0x80000000) × (quarterTurn ≡ 0x40000000)
@@ -95,3 +103,11 @@ wraps :
     × (angleDifference 0x80000000 0x7fffffff ≡ 1)
     × (angleDifference 0 0 ≡ 0)
 wraps = (refl, refl, refl, refl, refl, refl, refl)
+
+-- which are exact: every 64th part at 24 places, in each quarter, and none beside it; at 16 places every 2^14th, at 28 every fourth
+exact-arguments :
+    ((exactArgument 24 0 ≡ true) × (exactArgument 24 63 ≡ false) × (exactArgument 24 64 ≡ true) × (exactArgument 24 65 ≡ false) × (exactArgument 24 96 ≡ false))
+    × ((exactArgument 24 0x40000000 ≡ true) × (exactArgument 24 0x40000001 ≡ false) × (exactArgument 24 0x40000040 ≡ true) × (exactArgument 24 0x7fffffe0 ≡ false))
+    × ((exactArgument 24 0x80000040 ≡ true) × (exactArgument 24 0x80000020 ≡ false) × (exactArgument 24 0xffffffc0 ≡ true) × (exactArgument 24 0xffffffff ≡ false))
+    × ((exactArgument 16 16384 ≡ true) × (exactArgument 16 8192 ≡ false) × (exactArgument 28 4 ≡ true) × (exactArgument 28 2 ≡ false))
+exact-arguments = ((refl, refl, refl, refl, refl), (refl, refl, refl, refl), (refl, refl, refl, refl), (refl, refl, refl, refl))

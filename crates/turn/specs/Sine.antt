@@ -1,6 +1,6 @@
 -- Sine and cosine of an angle, by an odd formula of a whole sheet: the reader's refusals, then 15. The binary places are s.
 use mathlib.Core.Path.{_≡_, refl}
-use mathlib.Core.Bool.{Bool, true, cond}
+use mathlib.Core.Bool.{Bool, true, false, cond}
 use mathlib.Core.List.{List, [], _∷_}
 use Prim.Native.Nat.{ℕ}
 use lib.Dec.{ltb}
@@ -13,11 +13,11 @@ use Rattle.formula.specs.declared.Formula.{Formula}
 use Rattle.layout.specs.Fields.{shape, formula}
 use Rattle.faults.specs.Guard.{refusal, guard, orElse}
 use Rattle.sheet.specs.Reader.{readerRefusals, formulaRead, HasFormula}
-use Rattle.answering.specs.Answering.{refused, answered}
+use Rattle.answering.specs.Answering.{refused, answered, withMark}
 use Rattle.answering.specs.declared.answers.Evaluation.{Evaluation}
 use Rattle.answering.specs.declared.answers.Evaluation.the-variants.{Answered, Refused}
 use Rattle.board.specs.Board.{whenGiven, evaluated}
-use Rattle.turn.specs.Angles.{quarterTurn, angleSum, quarterOf, restOf, argumentIn}
+use Rattle.turn.specs.Angles.{quarterTurn, angleSum, quarterOf, restOf, argumentIn, exactIn}
 
 -- the refusals that sine and cosine can give: the reader's and 15
 abbrev pub sineRefusals : List ℕ
@@ -52,7 +52,7 @@ HasSine s bytes n = HasFormula s bytes n × ForSine s (formulaRead s bytes n .fo
 
 -- ---- an answer, its word negated where the sign is set; a refusal stays as it is
 abbrev pub signedBy : Bool → Evaluation → Evaluation
-signedBy sign (Answered w) = answered (withSign sign (w .word)) (w .steps)
+signedBy sign (Answered w) = answered (withSign sign (w .word)) (w .steps) (w .exact)
 signedBy sign (Refused r) = Refused r
 
 abbrev pub negated : Evaluation → Evaluation
@@ -62,12 +62,15 @@ negated e = signedBy true e
 abbrev pub signedIn : ℕ → Evaluation → Evaluation
 signedIn quarter e = signedBy (ltb 1 quarter) e
 
--- ---- what the board answers at the argument, or its negation
+-- ---- what the board answers at the argument, or its negation; rounded where the argument is
 abbrev pub sineBy : ℕ → Formula → ℕ → Evaluation → Evaluation
 sineBy s f quarter e = guard (sineFault s f) refused (signedIn quarter e)
 
+abbrev pub plainIn : ℕ → List ℕ → ℕ → ℕ → ℕ → Evaluation
+plainIn s bytes n quarter f = withMark (exactIn s quarter f) (evaluated s bytes n (argumentIn s quarter f))
+
 abbrev pub sineIn : ℕ → List ℕ → ℕ → ℕ → ℕ → Evaluation
-sineIn s bytes n quarter f = whenGiven (formulaRead s bytes n .found) (sineBy s (formulaRead s bytes n .formula) quarter (evaluated s bytes n (argumentIn s quarter f)))
+sineIn s bytes n quarter f = whenGiven (formulaRead s bytes n .found) (sineBy s (formulaRead s bytes n .formula) quarter (plainIn s bytes n quarter f))
 
 abbrev pub sineOf : ℕ → List ℕ → ℕ → ℕ → Evaluation
 sineOf s bytes n a = sineIn s bytes n (quarterOf a) (restOf a)
@@ -103,12 +106,12 @@ by-places : (spanFault 16 (pos 0) (pos 65536) ≡ 0) × (spanFault 16 (pos 0) (p
 unfolding spanFault
 by-places = (refl, refl, refl, refl)
 
--- the sign in each quarter, of the word alone; a refusal has none
+-- the sign in each quarter, of the word alone, and the mark as it is; a refusal has none
 signs :
-    (signedIn 0 (answered (pos 3) 1) ≡ answered (pos 3) 1)
-    × (signedIn 1 (answered (pos 3) 1) ≡ answered (pos 3) 1)
-    × (signedIn 2 (answered (pos 3) 1) ≡ answered (negsuc 2) 1)
-    × (signedIn 3 (answered (pos 3) 1) ≡ answered (negsuc 2) 1)
+    (signedIn 0 (answered (pos 3) 1 true) ≡ answered (pos 3) 1 true)
+    × (signedIn 1 (answered (pos 3) 1 true) ≡ answered (pos 3) 1 true)
+    × (signedIn 2 (answered (pos 3) 1 true) ≡ answered (negsuc 2) 1 true)
+    × (signedIn 3 (answered (pos 3) 1 false) ≡ answered (negsuc 2) 1 false)
     × (signedIn 3 (refused 11) ≡ refused 11)
 signs = (refl, refl, refl, refl, refl)
 
@@ -117,8 +120,8 @@ abbrev over : Kind → ℤ → Formula
 over kind lo = formula 5 (shape kind 1 0 0) lo (pos 16777216) []
 
 answer-or-fifteen :
-    (sineBy 24 (over Odd (pos 0)) 0 (answered (pos 3) 0) ≡ answered (pos 3) 0)
-    × (sineBy 24 (over Odd (pos 1)) 0 (answered (pos 3) 0) ≡ Refused (refusal 0 15))
-    × (sineBy 24 (over Even (pos 0)) 2 (answered (pos 3) 0) ≡ Refused (refusal 0 15))
+    (sineBy 24 (over Odd (pos 0)) 0 (answered (pos 3) 0 true) ≡ answered (pos 3) 0 true)
+    × (sineBy 24 (over Odd (pos 1)) 0 (answered (pos 3) 0 true) ≡ Refused (refusal 0 15))
+    × (sineBy 24 (over Even (pos 0)) 2 (answered (pos 3) 0 true) ≡ Refused (refusal 0 15))
 unfolding spanFault
 answer-or-fifteen = (refl, refl, refl)

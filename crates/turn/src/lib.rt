@@ -3,8 +3,8 @@ ghost use mathlib.Core.Path.{_≡_};
 ghost use Rattle.word.specs.Words.{Word, Scale};
 ghost use Rattle.records.specs.Sheets.{FormulaBytes};
 ghost use Rattle.sheet.specs.Reader.{formulaIn};
-ghost use Rattle.answering.specs.Answering.{evaluationWord, answerAt};
-ghost use Rattle.turn.specs.Angles.{quarterOf, argumentOf};
+ghost use Rattle.answering.specs.Answering.{evaluationWord, withMark, answerAt};
+ghost use Rattle.turn.specs.Angles.{quarterOf, argumentOf, exactArgument};
 ghost use Rattle.turn.specs.Sine.{oddFault, spanFault, sineFault, signedBy, sineBy, sineOf, cosineOf};
 
 mod angle;
@@ -57,12 +57,23 @@ fn sine_fault(b: &[u8], s: u32) -> u8
     span_fault(layout::lo(b), layout::hi(b), s)
 }
 
+// An angle as an argument, and whether nothing was rounded off.
+struct TakenAngle {
+    word: i32,
+    exact: bool,
+}
+
 // f / 2^(30 - s), rounded as a product is: a quarter turn is one.
-fn argument(angle: u32, s: u32) -> i32
+fn argument(angle: u32, s: u32) -> TakenAngle
     requires { ⌜ Scale s ⌝ }
-    ensures { λ r. ⌜ r ≡ argumentOf s angle ⌝ }
+    ensures word { λ r. ⌜ r .word ≡ argumentOf s angle ⌝ }
+    ensures mark { λ r. ⌜ r .exact ≡ exactArgument s angle ⌝ }
 {
-    word::rounded_shift(angle::folded(angle) as i64, 30 - s) as i32
+    let cut = 30 - s;
+    let r = word::rounded_shift(angle::folded(angle) as i64, cut);
+    let word = r.value as i32;
+    let exact = word::is_whole(r.loose, cut);
+    TakenAngle { word, exact }
 }
 
 // The answer, its word negated where the sign is set.
@@ -74,21 +85,23 @@ fn signed(e: Evaluation, sign: bool) -> Evaluation
         Evaluation::Answered(w) => Evaluation::Answered(Worked {
             word: word::with_sign(sign, w.word as i64) as i32,
             steps: w.steps,
+            exact: w.exact,
         }),
         Evaluation::Refused(r) => Evaluation::Refused(r),
     }
 }
 
-// 15, or the formula's answer at the angle's argument, negated in quarters 2 and 3.
+// 15, or the formula's answer at the angle's argument, rounded where that is, and negated in quarters 2 and 3.
 fn sine_of(b: &[u8], angle: u32, s: u32) -> Evaluation
     requires { ⌜ Scale s × FormulaBytes s (now b) ⌝ }
-    ensures { λ r. ⌜ r ≡ sineBy s (formulaIn (now (b .entry))) (quarterOf angle) (answerAt s (formulaIn (now (b .entry))) (argumentOf s angle)) ⌝ }
+    ensures { λ r. ⌜ r ≡ sineBy s (formulaIn (now (b .entry))) (quarterOf angle) (withMark (exactArgument s angle) (answerAt s (formulaIn (now (b .entry))) (argumentOf s angle))) ⌝ }
 {
     let f = sine_fault(b, s);
     if f != 0 {
         return answering::refused(f);
     }
-    let e = answering::answer_of(b, argument(angle, s), s);
+    let x = argument(angle, s);
+    let e = answering::with_mark(answering::answer_of(b, x.word, s), x.exact);
     signed(e, 1 < angle::quarter(angle))
 }
 

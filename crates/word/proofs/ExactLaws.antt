@@ -41,9 +41,12 @@ product-exact s a b e = rounded-divides (a *ℤ b) (unit s) (unit-pos s) e
 pub exact-product : (s : ℕ) (a b : ℤ) → productOf s a b *ℤ pos (unit s) ≡ a *ℤ b → exactProduct s a b ≡ true
 exact-product s a b e = divides-rounded (a *ℤ b) (unit s) e
 
--- of 0 it is
+-- of 0 it is, and by 0
 pub exact-zero : (s : ℕ) (b : ℤ) → exactProduct s (pos 0) b ≡ true
 exact-zero s b = multiple-divides (unit s) (pos 0 *ℤ b) (pos 0) (zero-*ℤ b ∙ sym (zero-*ℤ (pos (unit s))))
+
+pub exact-by-zero : (s : ℕ) (a : ℤ) → exactProduct s a (pos 0) ≡ true
+exact-by-zero s a = multiple-divides (unit s) (a *ℤ pos 0) (pos 0) (same (v a ⊗ n 0) (n 0 ⊗ n (unit s)) (omega arith))
 
 pub product-sizes : (s : ℕ) (a b c d : ℤ) → natAbs a ≡ natAbs c → natAbs b ≡ natAbs d → exactProduct s a b ≡ exactProduct s c d
 product-sizes s a b c d f g = ap (λ (k : ℕ). eqb (k % unit s) 0) (abs-mul a b ∙ ap₂ _*_ f g ∙ sym (abs-mul c d))

@@ -38,7 +38,9 @@ module _ (c : tie.After-with-sign) where
       cast (known is-signed (fit-abs (omega (arith, m, is-word (c .before))))) (fit-abs (omega (arith, m, is-word (c .before))))
 
 returns : tie.Need-returns
-returns c = ap (λ (z : ℤ). answered z (c .before .before .before .before .e .given .0 .0 .steps)) (held (held-z c)) ∙ ap (signedBy (start c .args .sign)) (sym (c .before .before .before .before .e .given .1))
+returns c =
+    let a = c .before .before .before .before .e .given .0 .0 in
+    ap (λ (z : ℤ). answered z (a .steps) (a .exact)) (held (held-z c)) ∙ ap (signedBy (start c .args .sign)) (sym (c .before .before .before .before .e .given .1))
 
 returns-2 : tie.Need-returns-2
 returns-2 c = ap (signedBy (c .before .before .before .args .sign)) (sym (c .before .e2 .given .1))

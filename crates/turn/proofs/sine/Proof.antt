@@ -7,11 +7,11 @@ use Rattle.sheet.specs.declared.answers.Found.the-variants.{Given, Refused as W
 use Rattle.sheet.specs.declared.answers.Place.the-variants.{At}
 use Rattle.sheet.specs.declared.answers.Reading.{Reading}
 use Rattle.sheet.proofs.Places.{place-standing}
-use Rattle.answering.specs.Answering.{answerAt}
+use Rattle.answering.specs.Answering.{withMark, answerAt}
 use Rattle.answering.specs.declared.answers.Evaluation.{Evaluation}
 use Rattle.board.specs.Board.{whenGiven}
 use Rattle.board.proofs.ReadingLaws.{when-at, when-refused}
-use Rattle.turn.specs.Angles.{quarterOf, argumentOf}
+use Rattle.turn.specs.Angles.{quarterOf, argumentOf, exactArgument}
 use Rattle.turn.specs.Sine.{sineBy, sineOf}
 use Rattle.turn.proofs.sine.Statement.{statement}
 use Rattle.turn.proofs.sine.Tie as tie
@@ -28,8 +28,11 @@ module _ (d : tie.Start) where
   abbrev own : Formula → Evaluation
   own f = answerAt (d .args .places) f (argumentOf (d .args .places) (d .args .angle))
 
+  abbrev marked : Evaluation → Evaluation
+  marked e = withMark (exactArgument (d .args .places) (d .args .angle)) e
+
   abbrev sine-by : Formula → Evaluation
-  sine-by f = signed-from f (own f)
+  sine-by f = signed-from f (marked (own f))
 
   abbrev r : Reading
   r = formulaRead (d .args .places) bytes (d .args .number)
@@ -38,7 +41,7 @@ module _ (d : tie.Start) where
   as-board : whenGiven (r .found) (sine-by (r .formula)) ≡ sineOf (d .args .places) bytes (d .args .number) (d .args .angle)
   as-board = by (r .found) (r .formula)
     where
-      by : (a : Found) (f : Formula) → whenGiven a (sine-by f) ≡ whenGiven a (signed-from f (whenGiven a (own f)))
+      by : (a : Found) (f : Formula) → whenGiven a (sine-by f) ≡ whenGiven a (signed-from f (marked (whenGiven a (own f))))
       by Given f = refl
       by (Withheld q) f = refl
 
