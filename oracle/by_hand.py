@@ -1,12 +1,13 @@
 """The paper's own cases (01, 'Checked by hand'), P or not, with the tie cases
 as request M-101 has them, and the listing's; then cases of odd and even
 formulas (request M-100), of ties (M-101), of sines and cosines (M-102), of the
-steps that roots take (M-103) and of products from halves (M-104), worked out
-by hand.
+steps that roots take (M-103), of products from halves (M-104) and of marks
+(M-105), worked out by hand.
 
 A case is a formula, an argument or an angle where an answer is asked, and what
 is given: an answer word, a refusal number at the record, or accepted (0). A
-root's case has no formula, and has the number of steps after the answer word.
+root's case has no formula, and has the number of steps after the answer word;
+a mark's case has the mark after it: exact (1) or rounded (0).
 """
 
 from formulas import EVEN, FRACTION, ODD, POLYNOMIAL, RATIONAL, ROOT, Formula
@@ -591,4 +592,338 @@ HALVES_ADMISSIONS = (
     # 127. Digits 127,65535,65535,65408: rounded up, all of them carry, and it
     # is 128,0,0,0, so M + 1.
     (polynomial((0, 16777217), 0, 2147483520), 7),
+)
+
+# Marks. In the comments arguments, s and divisors are in ones, all else is in
+# steps. 4096 steps squared are 2^24, so s is one step there, exactly; at 4097
+# steps the square is 16785409, 8193 more, so s is one step, rounded; at one
+# step it is 2^-24, so 0, rounded.
+
+QUARTER_OF_ONE = ONE // 4
+IDENTITY = polynomial((0, ONE))
+
+# In a polynomial no roundings cancel: where a product is rounded x is no whole
+# number, and no further product with x makes up the part of a step.
+POLYNOMIAL_MARKS = (
+    # Nothing is multiplied.
+    (polynomial((7,)), 3, 7, 1),
+    # One product: by one; of a step with x; of two.
+    (IDENTITY, 12345, 12345, 1),
+    (IDENTITY, -1, -1, 1),
+    (STEP, ONE, 1, 1),
+    (STEP, -2 * ONE, -2, 1),
+    (STEP, 0, 0, 1),
+    (STEP, HALF, 1, 0),  # 1/2
+    (STEP, -HALF, -1, 0),
+    (STEP, 1, 0, 0),  # 2^-24
+    (STEP, ONE + 1, 1, 0),  # 2^-24 more than 1
+    (STEP, ONE - 1, 1, 0),  # 2^-24 less than 1
+    (polynomial((0, 2)), HALF, 1, 1),
+    (polynomial((0, 2)), -HALF, -1, 1),
+    (polynomial((0, 2)), HALF + 1, 1, 0),  # 2^-23 more than 1
+    # Both are exact: 2 and 1. Only the last is rounded: 1 and 1/2, so 1. Only
+    # the first: 1/2, so 1, and 1 more is 2; 1. The first, and then 1 less is
+    # 0; 0.
+    (polynomial((5, 0, 4)), HALF, 6, 1),
+    (polynomial((5, 0, 2)), HALF, 6, 0),
+    (polynomial((5, 1, 1)), HALF, 6, 0),
+    (polynomial((5, -1, 1)), HALF, 5, 0),
+    # Only the middle one of three: 1; 1/2, so 1, and 1 more is 2; 1.
+    (polynomial((0, 1, 0, 2)), HALF, 1, 0),
+    # Products with 0 are exact.
+    (polynomial((3, 0, 0)), 1, 3, 1),
+    (polynomial((3, 1, 1)), 0, 3, 1),
+    # 1/4 and 5/8 in ones, as in the paper's own case.
+    (QUADRATIC, HALF, 27262976, 1),
+    # Up to the largest word: times one, and M - 1/2.
+    (polynomial((0, 2147483647), -ONE, ONE), -ONE, -2147483647, 1),
+    (LARGEST_TIE, 464773 << 11, 2147483647, 0),
+)
+
+# Near where it turns, an even formula has no use of how s is rounded. x is
+# 8193 * 2^11 steps and s a quarter of 8193^2 = 67125249, so 16781312.25,
+# rounded 16781312. c2 is 4, so c2 s is 67125248; with s unrounded it would be
+# 67125249. c1 is -67108864 - 67125249, so c1 + c2 s is -67108865; it would be
+# -67108864, which is -4 in ones. Times s that is -67125248, and 1.0002 less
+# for the step, rounded -67125249; it would be -4 times 16781312.25, the same.
+# With c0 = 67125249 + 8192 the even part is 8192, and times x it is
+# 2^13 * 8193 * 2^11 / 2^24 = 8193.
+TURNING = 8193 << 11
+
+SQUARE_MARKS = (
+    # With one coefficient s is not used, and so it does not count.
+    (even((9,)), 1, 9, 1),
+    (even((9,)), 4097, 9, 1),
+    (odd((ONE,)), 1, 1, 1),
+    (odd((ONE,)), -4097, -4097, 1),
+    (ODD_STEP, ONE, 1, 1),
+    (ODD_STEP, HALF, 1, 0),  # s is 1/4, but the last product 1/2
+    # With two it is used, and counts; beside a coefficient of 0 too.
+    (even((9, 0)), 4096, 9, 1),
+    (even((9, 0)), 4097, 9, 0),
+    (even((9, 0)), 1, 9, 0),
+    (even((9, 0, 0)), -4096, 9, 1),
+    (even((9, 0, 0)), -4097, 9, 0),
+    (even((9, ONE)), 4096, 10, 1),
+    (even((9, ONE)), 4097, 10, 0),
+    (even((9, ONE)), -4097, 10, 0),
+    (odd((ONE, 0)), 4096, 4096, 1),
+    (odd((ONE, 0)), 4097, 4097, 0),
+    (odd((ONE, 0)), 3, 3, 0),  # s is 9 * 2^-24, so 0
+    # The even part is one less a step, and a step more: one. So only s is
+    # rounded at 4097.
+    (odd((ONE - 1, ONE)), 4096, 4096, 1),
+    (odd((ONE - 1, ONE)), 4097, 4097, 0),
+    # s is exact, and the product with it is not: 1/2, so 1; 1/4, so 0, and
+    # 0 times x is exact.
+    (even((0, HALF)), 4096, 1, 0),
+    (odd((0, 1)), HALF, 0, 0),
+    # Only the odd formula's last product: 1 + 1 times 4096 steps is 2^-11, so
+    # 0; 4095 + 1 times 4096 steps is 1.
+    (odd((1, ONE)), 4096, 0, 0),
+    (odd((4095, ONE)), 4096, 1, 1),
+    (odd((4095, ONE)), -4096, -1, 1),
+    # s is 1/4: 7/8; and 31/32, then 31/64. All are exact, as at 2.
+    (EVEN_OF_TWO, HALF, 14680064, 1),
+    (ODD_OF_TWO, -HALF, -8126464, 1),
+    (ODD_OF_TWO, 2 * ONE, 16777216, 1),
+    # Two roundings that cancel.
+    (even((0, -134234113, 67108864)), TURNING, -67125249, 0),
+    (even((0, -134234113, 67108864)), -TURNING, -67125249, 0),
+    (odd((67133441, -134234113, 67108864), -TURNING, TURNING), TURNING, 8193,
+     0),
+    (odd((67133441, -134234113, 67108864), -TURNING, TURNING), -TURNING,
+     -8193, 0),
+)
+
+RATIONAL_MARKS = (
+    # x over 2, and over -2.
+    (rational((0, ONE), ones(2)), 2, 1, 1),
+    (rational((0, ONE), ones(2)), -2, -1, 1),
+    (rational((0, ONE), ones(2)), 3, 2, 0),
+    (rational((0, ONE), ones(-2)), 2, -1, 1),
+    (rational((0, ONE), ones(-2)), -2, 1, 1),
+    (rational((0, ONE), ones(-2)), 3, -2, 0),
+    # 6 and 7 over -3, 0 over 3 steps.
+    (rational((6,), ones(-3)), 0, -2, 1),
+    (rational((-6,), ones(-3)), 0, 2, 1),
+    (rational((7,), ones(-3)), 0, -2, 0),
+    (rational((0,), (3,)), 0, 0, 1),
+    # A step over 2 and over 3 steps: 2^24 / 2 is whole, and 2^24 / 3 is not.
+    (rational((1,), (2,)), 0, 8388608, 1),
+    (rational((1,), (-2,)), 0, -8388608, 1),
+    (rational((1,), (3,)), 0, 5592405, 0),
+    # Only the numerator's product is rounded: 1/2, so 1; over 1.
+    (rational((0, 1), ones(1)), HALF, 1, 0),
+    (rational((0, 1), ones(1)), ONE, 1, 1),
+    # Only the divisor's: 1/2, so 1, and the divisor is 2; at 1 it is 2 too,
+    # exactly. At -1 it is 2 less 2 steps, and 4 over that is a little over 2.
+    (rational((4,), (2 * ONE - 1, 1)), HALF, 2, 0),
+    (rational((4,), (2 * ONE - 1, 1)), ONE, 2, 1),
+    (rational((4,), (2 * ONE - 1, 1)), -ONE, 2, 0),
+    # 12 over 12, 19 over 7 and 7 over 19, as in the paper's own cases.
+    (PADE, 0, 16777216, 1),
+    (PADE, ONE, 45538158, 0),
+    (PADE, -ONE, 6181080, 0),
+    # Two roundings that cancel: one and half a step over the same.
+    (rational((ONE, 1), (ONE, 1)), HALF, 16777216, 0),
+    (rational((ONE, 1), (ONE, 1)), ONE, 16777216, 1),
+)
+
+FRACTION_MARKS = (
+    # Mode 0. 1 over 1; only the product is rounded, 1/2, so 1; only the
+    # quotient, 1/3, so 0; 6 over -3, and 7 over -3, which is -7/3, so -2.
+    (fraction(0, (5, 2, ONE)), HALF, 6, 1),
+    (fraction(0, (5, 1, ONE)), HALF, 6, 0),
+    (fraction(0, (5, 2, 3 * ONE)), HALF, 5, 0),
+    (fraction(0, (5, 6, -3 * ONE)), ONE, 3, 1),
+    (fraction(0, (5, 7, -3 * ONE)), ONE, 3, 0),
+    # It has no s that could count, at any depth.
+    (fraction(0, (0, ONE, ONE)), 1, 1, 1),
+    (fraction(0, (0, ONE, ONE)), -4097, -4097, 1),
+    (fraction(0, (0, ONE, ONE, 0, ONE)), 4097, 4097, 1),
+    # Depth 2, b1 a step short of 1 or 2, and the inner quotient 1, which makes
+    # it up. Of four, only the inner product is rounded: 1/2; only the inner
+    # quotient: 1/2; only the outer product: 1/2; only the outer quotient: 1/2.
+    (fraction(0, (0, ONE, ONE - 1, 1, ONE)), ONE, ONE, 1),
+    (fraction(0, (0, ONE, ONE - 1, 1, ONE)), HALF, HALF, 0),
+    (fraction(0, (0, ONE, ONE - 1, 1, 2 * ONE)), ONE, ONE, 0),
+    (fraction(0, (0, 1, ONE - 1, 2, ONE)), HALF, 1, 0),
+    (fraction(0, (0, 2, 2 * ONE - 1, 2, ONE)), HALF, 1, 0),
+    # Mode 1: s over 1. With a1 = 0 too, s counts.
+    (fraction(1, (0, ONE, ONE)), 4096, 1, 1),
+    (fraction(1, (0, ONE, ONE)), -4096, 1, 1),
+    (fraction(1, (0, ONE, ONE)), 4097, 1, 0),
+    (fraction(1, (0, ONE, ONE)), 1, 0, 0),
+    (fraction(1, (7, 0, ONE)), 4096, 7, 1),
+    (fraction(1, (7, 0, ONE)), 4097, 7, 0),
+    (fraction(1, (0, 2, ONE)), HALF, 1, 0),  # s = 1/4, and 2 times it is 1/2
+    (fraction(1, (0, 4, ONE)), HALF, 1, 1),
+    (fraction(1, (0, 4, 2 * ONE)), HALF, 1, 0),  # 1/2
+    (fraction(1, (0, 4, -ONE)), HALF, -1, 1),
+    # Mode 2 has no use of s at depth 1; at depth 2 it has, with a2 = 0 too.
+    # With a2 = 1, s, which is a step, makes b1 up to 1.
+    (fraction(2, (0, ONE, ONE)), 1, 1, 1),
+    (fraction(2, (0, ONE, ONE)), 4097, 4097, 1),
+    (fraction(2, (0, ONE, ONE, 0, ONE)), 4096, 4096, 1),
+    (fraction(2, (0, ONE, ONE, 0, ONE)), 4097, 4097, 0),
+    (fraction(2, (0, ONE, ONE - 1, ONE, ONE), -HALF, HALF), 4096, 4096, 1),
+    (fraction(2, (0, ONE, ONE - 1, ONE, ONE), -HALF, HALF), 4097, 4097, 0),
+    (fraction(2, (0, ONE, ONE - 1, ONE, ONE), -HALF, HALF), -4097, -4097, 0),
+    # s = 1: 1 over 2 is 1/2, and 1 over 2 again. s = 1/4: 1/8, and 1/2 over
+    # 13/8 is 4/13.
+    (fraction(2, (0, ONE, ONE + HALF, ONE, 2 * ONE), -ONE, ONE), ONE, HALF, 1),
+    (fraction(2, (0, ONE, ONE + HALF, ONE, 2 * ONE), -ONE, ONE), -ONE, -HALF,
+     1),
+    (fraction(2, (0, ONE, ONE + HALF, ONE, 2 * ONE), -ONE, ONE), HALF, 5162220,
+     0),
+    # 0 over 3, and 0 over 1; -1/4 over 3 is rounded.
+    (TANGENT, 0, 0, 1),
+    (TANGENT, ONE // 2, 9151209, 0),
+    # Two roundings that cancel: 3 times 1/4 is 3/4, so 1; over 3/4 that is
+    # 4/3, so 1; and 3/4 over 3/4 is 1.
+    (fraction(0, (5, 3, 3 * QUARTER_OF_ONE)), QUARTER_OF_ONE, 6, 0),
+    (fraction(1, (5, 3, 3 * QUARTER_OF_ONE)), HALF, 6, 0),
+    (fraction(2, (5, 3, 3 * QUARTER_OF_ONE)), QUARTER_OF_ONE, 6, 0),
+)
+
+# 4096 is the root of 2^24, so the root of n * n is n * 4096. The others are
+# those above, and those next to 46340 * 46340 = 2147395600, the largest square
+# among the words: 46340 * 4096 is 189808640, and one more or less changes it
+# by 4096 / (2 * 46340), which is 0.044.
+ROOT_MARKS = (
+    (0, 0, 1), (1, 4096, 1), (2, 5792, 0), (3, 7094, 0), (4, 8192, 1),
+    (9, 12288, 1), (4097, 262175, 0), (4194303, 8388606, 0),
+    (4194304, 8388608, 1), (4194305, 8388608, 0), (16777215, 16777215, 0),
+    (16777216, 16777216, 1), (33554432, 23726566, 0),
+    (67108864, 33554432, 1), (67108868, 33554432, 0),
+    (1073741823, 134217727, 0), (1073741824, 134217728, 1),
+    (2147395599, 189808639, 0), (2147395600, 189808640, 1),
+    (2147395601, 189808640, 0), (2147483647, 189812531, 0),
+)
+
+MARKS = (*POLYNOMIAL_MARKS, *SQUARE_MARKS, *RATIONAL_MARKS, *FRACTION_MARKS,
+         *((ANY_ROOT, *case) for case in ROOT_MARKS))
+
+# Marks at the door. The pattern 0x3FF << 52 is 1, 0x3E7 << 52 is a step and
+# 0x3E6 << 52 half of one; one bit more, or one less, is never whole here.
+DOUBLE_MARKS = (
+    (IDENTITY, 0x3FF0000000000000, ONE, 1),
+    (IDENTITY, 0x3FF0000000000001, ONE, 0),
+    (IDENTITY, 0x3FEFFFFFFFFFFFFF, ONE, 0),
+    (IDENTITY, 0xBFF0000000000000, -ONE, 1),
+    (IDENTITY, 0xBFF0000000000001, -ONE, 0),
+    (IDENTITY, 0x3E70000000000000, 1, 1),
+    (IDENTITY, 0xBE70000000000000, -1, 1),
+    (IDENTITY, 0x3E78000000000000, 2, 0),  # 3/2
+    (IDENTITY, 0x3FB999999999999A, 1677722, 0),  # about 1/10, 1677721.6
+    # Half a step and just less, of either sign.
+    (IDENTITY, 0x3E60000000000000, 1, 0),
+    (IDENTITY, 0x3E5FFFFFFFFFFFFF, 0, 0),
+    (IDENTITY, 0xBE60000000000000, -1, 0),
+    (IDENTITY, 0xBE5FFFFFFFFFFFFF, 0, 0),
+    # 0 and minus 0; the least and the greatest subnormal; the least normal.
+    (IDENTITY, 0x0000000000000000, 0, 1),
+    (IDENTITY, 0x8000000000000000, 0, 1),
+    (IDENTITY, 0x0000000000000001, 0, 0),
+    (IDENTITY, 0x8000000000000001, 0, 0),
+    (IDENTITY, 0x000FFFFFFFFFFFFF, 0, 0),
+    (IDENTITY, 0x0010000000000000, 0, 0),
+    # The largest word, and a little more.
+    (polynomial((0, ONE), -2147483647, 2147483647), 0x405FFFFFFFC00000,
+     2147483647, 1),
+    (polynomial((0, ONE), -2147483647, 2147483647), 0x405FFFFFFFC00001,
+     2147483647, 0),
+    # The argument's rounding counts where the answer has no use of it, too.
+    (polynomial((9,)), 0x3FF0000000000000, 9, 1),
+    (polynomial((9,)), 0x3FF0000000000001, 9, 0),
+    (even((9,)), 0x8000000000000000, 9, 1),
+    (even((9,)), 0x0000000000000001, 9, 0),
+    (rational((9,), ones(-1)), 0x3E70000000000000, -9, 1),
+    (rational((9,), ones(-1)), 0x3E60000000000000, -9, 0),
+    # The formula's own roundings: half a step at 1/2, s at 4097 steps.
+    (STEP, 0x3FE0000000000000, 1, 0),
+    (STEP, 0x3FE0000000000001, 1, 0),
+    (odd((ONE - 1, ONE)), 0x3F30000000000000, 4096, 1),
+    (odd((ONE - 1, ONE)), 0x3F30010000000000, 4097, 0),
+    (odd((ONE - 1, ONE)), 0x3F30000000000001, 4096, 0),
+    (fraction(2, (0, ONE, ONE)), 0x3F30010000000000, 4097, 1),
+    (ODD_OF_TWO, 0x3FE0000000000000, 8126464, 1),
+    (ODD_OF_TWO, 0xBFE0000000000000, -8126464, 1),
+    (ODD_OF_TWO, 0xBFE0000000000001, -8126464, 0),
+    (TANGENT, 0x8000000000000000, 0, 1),
+    (TANGENT, 0x8000000000000001, 0, 0),
+    # Roots of 1/4, of a little more, of 2 and of minus 0.
+    (SQUARE_ROOT, 0x3FD0000000000000, HALF, 1),
+    (SQUARE_ROOT, 0x3FD0000000000001, HALF, 0),
+    (SQUARE_ROOT, 0x4000000000000000, 23726566, 0),
+    (SQUARE_ROOT, 0x8000000000000000, 0, 1),
+    (SQUARE_ROOT, 0x8000000000000001, 0, 0),
+)
+
+# Marks of sines: the argument is exact where the angle's last six bits are 0.
+SINE_MARKS = (
+    (ARGUMENT, 0x00000000, 0, 1),
+    (ARGUMENT, 0x00000001, 0, 0),
+    (ARGUMENT, 0x00000020, 1, 0),
+    (ARGUMENT, 0x00000040, 1, 1),
+    (ARGUMENT, 0x00000041, 1, 0),
+    (ARGUMENT, 0x20000000, 8388608, 1),
+    (ARGUMENT, 0x3FFFFFC0, 16777215, 1),
+    (ARGUMENT, 0x3FFFFFFF, 16777216, 0),
+    (ARGUMENT, 0x40000000, 16777216, 1),
+    (ARGUMENT, 0x40000001, 16777216, 0),
+    (ARGUMENT, 0x40000040, 16777215, 1),
+    (ARGUMENT, 0x7FFFFFC0, 1, 1),
+    (ARGUMENT, 0x7FFFFFE0, 1, 0),
+    (ARGUMENT, 0x80000000, 0, 1),
+    (ARGUMENT, 0x8000003F, -1, 0),
+    (ARGUMENT, 0x80000040, -1, 1),
+    (ARGUMENT, 0xA0000000, -8388608, 1),
+    (ARGUMENT, 0xBFFFFFFF, -16777216, 0),
+    (ARGUMENT, 0xC0000000, -16777216, 1),
+    (ARGUMENT, 0xC0000040, -16777215, 1),
+    (ARGUMENT, 0xC0000060, -16777215, 0),  # one less 3/2 of a step, a tie
+    (ARGUMENT, 0xFFFFFFC0, -1, 1),
+    (ARGUMENT, 0xFFFFFFFF, 0, 0),
+    # The formula's own roundings: half a step at 1/2; none for 31/64, but for
+    # the angle's; s alone at 4097 steps, of 64 parts each.
+    (ODD_STEP, 0x20000000, 1, 0),
+    (ODD_STEP, 0x40000000, 1, 1),
+    (ODD_STEP, 0xC0000000, -1, 1),
+    (ODD_STEP, 0xE0000000, -1, 0),
+    (ODD_OF_TWO, 0x20000000, 8126464, 1),
+    (ODD_OF_TWO, 0x20000001, 8126464, 0),
+    (ODD_OF_TWO, 0x60000000, 8126464, 1),
+    (ODD_OF_TWO, 0xA0000000, -8126464, 1),
+    (ODD_OF_TWO, 0xDFFFFFFF, -8126464, 0),
+    (odd((ONE - 1, ONE), 0, ONE), 0x00040000, 4096, 1),
+    (odd((ONE - 1, ONE), 0, ONE), 0x00040001, 4096, 0),
+    (odd((ONE - 1, ONE), 0, ONE), 0x00040040, 4097, 0),
+    (odd((ONE,), 0, ONE), 0x00040040, 4097, 1),
+)
+
+# A quarter more, each time, is an angle of the sines above.
+COSINE_MARKS = (
+    (ARGUMENT, 0x00000000, 16777216, 1),
+    (ARGUMENT, 0x00000001, 16777216, 0),
+    (ARGUMENT, 0x00000040, 16777215, 1),
+    (ARGUMENT, 0x3FFFFFC0, 1, 1),
+    (ARGUMENT, 0x3FFFFFE0, 1, 0),
+    (ARGUMENT, 0x40000000, 0, 1),
+    (ARGUMENT, 0x4000003F, -1, 0),
+    (ARGUMENT, 0x60000000, -8388608, 1),
+    (ARGUMENT, 0x80000000, -16777216, 1),
+    (ARGUMENT, 0x80000060, -16777215, 0),
+    (ARGUMENT, 0xBFFFFFC0, -1, 1),
+    (ARGUMENT, 0xBFFFFFFF, 0, 0),
+    (ARGUMENT, 0xC0000000, 0, 1),
+    (ARGUMENT, 0xC0000040, 1, 1),
+    (ARGUMENT, 0xC0000041, 1, 0),
+    (ODD_STEP, 0x00000000, 1, 1),
+    (ODD_STEP, 0xE0000000, 1, 0),
+    (ODD_OF_TWO, 0xE0000000, 8126464, 1),
+    (ODD_OF_TWO, 0xE0000001, 8126464, 0),
+    (odd((ONE - 1, ONE), 0, ONE), 0xC0040000, 4096, 1),
+    (odd((ONE - 1, ONE), 0, ONE), 0xC0040040, 4097, 0),
 )

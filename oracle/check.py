@@ -9,6 +9,8 @@ from fractions import Fraction
 from pathlib import Path
 from random import Random
 
+import check_marks
+import groups_halves
 import slow
 from by_hand import (
     ADMISSIONS, ANSWERS, ANY_ROOT, COSINES, FIT, HALVES, HALVES_ADMISSIONS,
@@ -36,10 +38,10 @@ from questions import (
     ask_sine, buffer_beforehand, unpacked_fields)
 from refusal import Refused
 from sheet import END, START, formula_count, formula_of, read, read_run
-from slips import (
-    SLIPS, Way, changed, is_in_bounds, is_in_products, vectors_of_halves)
+from slips_halves import (
+    SLIPS, Way, changed, is_in_bounds, is_in_products)
 from turn import HALF_TURN, QUARTER, cosine, sine, wrapped
-from vectors import taken_apart
+from vectors import taken_apart, vectors_of
 from writing import record_of, start_or_end, write_record, write_sheet
 
 INFINITY = 0x7FF << 52
@@ -103,49 +105,69 @@ def ratios(rng):
 
 
 def factors(rng):
-    """Two words, and two whose product is a tie."""
+    """Two words, two whose product is a tie, and two where it is exact."""
     twos = rng.randrange(24)
     yield word(rng), word(rng)
-    yield (signed(rng, 2 * size(rng, 99) + 1 << twos),
-           signed(rng, 2 * size(rng, 99) + 1 << 23 - twos))
+    for more in (23, 24):
+        yield (signed(rng, 2 * size(rng, 99) + 1 << twos),
+               signed(rng, 2 * size(rng, 99) + 1 << more - twos))
 
 
 def dividends_and_divisors(rng):
-    """Two words, and two numbers whose quotient is a tie."""
+    """Two words, two numbers whose quotient is a tie, and two where it is
+    exact."""
     n = signed(rng, 1 + size(rng, 99))
     yield word(rng), word(rng) or 1
     yield n, tied_divisor(rng, n)
+    yield n * (2 * size(rng, 99) + 1), n << rng.randrange(24)
+
+
+def negated(marked):
+    return marked._replace(number=-marked.number)
 
 
 def check_rounding(tally, rng):
-    """Rounding, products and quotients: against slow definitions, odd in each
-    of the two numbers, and case by case."""
+    """Rounding, products and quotients, with their marks: against slow
+    definitions, and odd in each of the two numbers."""
     for operation, definition, pairs in (
-            (nearest, lambda a, d: slow.nearest(Fraction(a, d)),
-             ratios),
-            (product, slow.product, factors),
-            (quotient, slow.quotient, dividends_and_divisors)):
+            (nearest, Fraction, ratios),
+            (product, lambda a, b: slow.product_taken("", a, b).exact,
+             factors),
+            (quotient, lambda a, d: slow.quotient_taken("", a, d).exact,
+             dividends_and_divisors)):
         for _ in range(2000):
             for a, b in pairs(rng):
                 what = f"{operation.__name__} of {a} and {b}"
                 found = operation(a, b)
-                tally.same(what, found, definition(a, b))
+                exact = definition(a, b)
+                tally.same(what, found,
+                           (slow.nearest(exact), slow.is_whole(exact)))
                 tally.same(f"{what}, odd in the first", operation(-a, b),
-                           -found)
+                           negated(found))
                 tally.same(f"{what}, odd in the second", operation(a, -b),
-                           -found)
+                           negated(found))
+
+
+def check_rounding_by_hand(tally, rng):
+    """Products and quotients with their marks, case by case."""
     # 8388608 is one half, so n times it is n/2.
-    for a, b, expected in ((1, 8388608, 1), (-1, 8388608, -1),
-                           (-1, 8388607, 0), (-1, 8388609, -1),
-                           (3, -8388608, -2), (-3, -8388608, 2),
-                           (M, M, 274877906688)):
-        tally.same(f"product {a} {b}", product(a, b), expected)
+    for a, b, *expected in (
+            (1, 8388608, 1, False), (-1, 8388608, -1, False),
+            (-1, 8388607, 0, False), (-1, 8388609, -1, False),
+            (3, -8388608, -2, False), (-3, -8388608, 2, False),
+            (4, -8388608, -2, True), (0, 8388607, 0, True),
+            (M, ONE, M, True), (M, M, 274877906688, False)):
+        tally.same(f"product {a} {b}", [*product(a, b)], expected)
     # 1 << 25 is two, so n over it is n/2.
-    for a, d, expected in ((1, 1 << 25, 1), (-1, 1 << 25, -1),
-                           (1, -(1 << 25), -1), (-1, -(1 << 25), 1),
-                           (-1, (1 << 25) + 1, 0), (-1, (1 << 25) - 1, -1),
-                           (-3, 1 << 25, -2), (ONE, -3 * ONE, -5592405)):
-        tally.same(f"quotient {a} {d}", quotient(a, d), expected)
+    for a, d, *expected in (
+            (1, 1 << 25, 1, False), (-1, 1 << 25, -1, False),
+            (1, -(1 << 25), -1, False), (-1, -(1 << 25), 1, False),
+            (-1, (1 << 25) + 1, 0, False), (-1, (1 << 25) - 1, -1, False),
+            (-3, 1 << 25, -2, False), (-4, 1 << 25, -2, True),
+            (-4, -(1 << 25), 2, True), (1, -(1 << 24), -1, True),
+            (1, -1, -ONE, True), (0, -3, 0, True),
+            (ONE, -3 * ONE, -5592405, False)):
+        tally.same(f"quotient {a} {d}", [*quotient(a, d)], expected)
 
 
 def check_bounds(tally, rng):
@@ -173,8 +195,8 @@ def sizes_to_multiply(rng):
 
 
 def check_halves(tally, rng):
-    """Products and bound products from halves are the plain ones, whatever
-    the signs; every carry is met, and none above 1."""
+    """Products, with their marks, and bound products from halves are the plain
+    ones, whatever the signs; every carry is met, and none above 1."""
     met = set()
     for a, b in sizes_to_multiply(rng):
         what = f"from halves, {a} and {b}"
@@ -183,7 +205,8 @@ def check_halves(tally, rng):
                    bound_product(a, b))
         tally.same(what, slow.product_from_halves(a, b), slow.product(a, b))
         for c, x in ((a, b), (a, -b), (-a, b), (-a, -b)):
-            tally.same(what, slow.product_from_halves(c, x), product(c, x))
+            tally.same(what, product(c, x), (slow.product_from_halves(c, x),
+                                             slow.exact_from_halves(c, x)))
     tally.same("every carry", met, {*EVERY_CARRY})
 
 
@@ -191,7 +214,7 @@ def check_slips(tally, rng):
     """Formulas worked by products from halves have the same answers and the
     same admission. With a slip in the product, or in the bound product alone,
     an answer of those vectors is another one."""
-    vectors = vectors_of_halves()
+    vectors = vectors_of(groups_halves.GROUPS)
     for other, other_bound in (
             (slow.product_from_halves, slow.bound_product_from_halves),
             (Way().product, Way().bound_product)):
@@ -213,10 +236,10 @@ def check_roots_by_hand(tally, rng):
     """The cases of roots, each with its steps."""
     sheet = sheet_of([ANY_ROOT])
     for x, expected, steps in ROOTS:
-        tally.same(f"root {x} by hand", evaluate(sheet, 1, x),
+        tally.same(f"root {x} by hand", evaluate(sheet, 1, x)[:2],
                    (expected, steps))
         tally.same(f"root {x} by hand, in doubles",
-                   evaluate_double(sheet, 1, pattern_of(x)),
+                   evaluate_double(sheet, 1, pattern_of(x))[:2],
                    (pattern_of(expected), steps))
 
 
@@ -238,17 +261,18 @@ def roots_to_take(rng):
 
 
 def check_roots(tally, rng):
-    """Roots and their steps against slow definitions. The first number is
-    above the exact root, and at most twice it. The numbers fall to the root,
-    and from there the rule would go on to the root again, or, where v is a
-    square less one, to one more."""
+    """Roots, their steps and their marks against slow definitions. The first
+    number is above the exact root, and at most twice it. The numbers fall to
+    the root, and from there the rule would go on to the root again, or, where
+    v is a square less one, to one more."""
     for x in roots_to_take(rng):
         v = x * ONE
-        r, steps = root(x)
+        r, steps, exact = root(x)
         *above, last, new = slow.numbers_of_heron(x)
         tally.same(f"root {x}", r, slow.root(x))
         tally.same(f"root {x} is the largest", r * r <= v < (r + 1) ** 2, True)
         tally.same(f"steps to the root {x}", steps, len(above) + 1)
+        tally.same(f"mark of the root {x}", exact, r * r == v)
         tally.same(f"first number for {x}", v < above[0] ** 2 <= 4 * v, True)
         tally.same(f"numbers {above} for {x} fall to the root", [*above, last],
                    sorted({*above, r}, reverse=True))
@@ -260,7 +284,7 @@ def check_steps(tally, rng):
     """Every number of steps from 2 to 7 is met, and no other but 0 for x = 0.
     The first and the last argument of each number take it, and none of the
     2000 beyond them does."""
-    tally.same("0 has no steps", root(0), (0, 0))
+    tally.same("0 has no steps", root(0), (0, 0, True))
     tally.same("numbers of steps", {*map(steps_to, roots_to_take(rng))},
                {*FIRST_AND_LAST})
     for steps, (first, last) in FIRST_AND_LAST.items():
@@ -290,9 +314,9 @@ def check_most_steps(tally, rng):
 
 
 def check_formulas(tally, rng):
-    """Answers, with their steps, and admission against slow definitions, some
-    with ties; an admitted formula's answers are words, and its divisors never
-    0."""
+    """Answers, with their steps and marks, and admission against slow
+    definitions, some with ties; an admitted formula's answers are words, and
+    its divisors never 0."""
     for formula in (*(good_formula(rng, kind) for kind in KINDS * 300),
                     *(tied_formula(rng, *form) for form in OTHER_FORMS * 30)):
         tally.same(f"admission of {formula}", slow.admission(formula), 0)
@@ -330,8 +354,9 @@ def check_polynomials(tally, rng):
 
 def check_opposite_arguments(tally, rng):
     """An odd formula at -x gives the negated answer and an even one the same,
-    where both arguments lie in the interval; answers against the slow
-    definitions. A rational with an odd divisor, whose d0 is 0, is refused."""
+    where both arguments lie in the interval, with the same mark; answers
+    against the slow definitions. A rational with an odd divisor, whose d0 is
+    0, is refused."""
     for sign, forms in ((-1, ODD_FORMS), (1, EVEN_FORMS)):
         for form in forms * 60:
             formula = rng.choice((formula_of_form, tied_formula))(rng, *form)
@@ -339,13 +364,14 @@ def check_opposite_arguments(tally, rng):
                 sheet = sheet_of([rng.choice((
                     formula, formula._replace(lo=-x),
                     formula._replace(hi=x)))])
-                found = evaluate(sheet, 1, x).word
-                tally.same(f"{formula} at {x}", found, slow.word(formula, x))
+                found = evaluate(sheet, 1, x)
+                opposite = sign * found.word
+                tally.same(f"{formula} at {x}", found, slow.answer(formula, x))
                 tally.same(f"{formula} at {-x}", evaluate(sheet, 1, -x),
-                           (sign * found, 0))
+                           (opposite, 0, found.exact))
                 tally.same(f"{formula} at {-x}, in doubles",
                            evaluate_double(sheet, 1, pattern_of(-x)),
-                           (pattern_of(sign * found), 0))
+                           (pattern_of(opposite), 0, found.exact))
     for powers in ((0, 1), (1, 1)) * 50:
         formula = formula_of_form(rng, RATIONAL, powers, 0)
         tally.same(f"admission of {formula}",
@@ -358,7 +384,7 @@ def check_turns_by_hand(tally, rng):
     for question, cases in ((sine, SINES), (cosine, COSINES)):
         for formula, angle, expected in cases:
             tally.same(f"{question.__name__} of {angle:08x} by hand",
-                       outcome(question, sheet_of([formula]), 1, angle),
+                       question(sheet_of([formula]), 1, angle)[:2],
                        (expected, 0))
     for formulas, expected in ((FIT, 0), (UNFIT, 15)):
         for formula in formulas:
@@ -386,8 +412,8 @@ def angles_to_turn(rng):
 
 
 def check_turns(tally, rng):
-    """Sine and cosine, with no steps, against slow definitions; they are
-    words."""
+    """Sine and cosine, with no steps and their marks, against slow
+    definitions; they are words."""
     for formula in formulas_to_turn(rng):
         sheet = sheet_of([formula])
         for angle in angles_to_turn(rng):
@@ -436,15 +462,17 @@ def check_a_sine(tally, rng):
     for angle in (*EDGE_ANGLES, *(rng.getrandbits(32) for _ in range(500))):
         s, c = sine_and_cosine(sheet, angle)
         tally.same(f"squares at {angle:08x}, {s} and {c}",
-                   abs(product(s, s) + product(c, c) - ONE) <= 8, True)
+                   abs(slow.product(s, s) + slow.product(c, c) - ONE) <= 8,
+                   True)
     twelfth = (1 << 32) // 12
     tally.same("sine at a twelfth",
                abs(sine(sheet, 1, twelfth).word - ONE // 2) <= 4, True)
 
 
 def check_doubles(tally, rng):
-    """Patterns against the value worked out from their bits in fractions; a
-    negated double is taken as the negated word."""
+    """Patterns, with the marks of their rounding, against the value worked out
+    from their bits in fractions; a negated double is taken as the negated
+    word."""
     for _ in range(3000):
         near = 1023 - 30 + rng.randrange(40) << 52 | rng.getrandbits(52)
         tie = pattern_of(2 * word(rng) + 1, -25)
@@ -452,15 +480,17 @@ def check_doubles(tally, rng):
                         rng.getrandbits(64)):
             expected = refused(13)
             if pattern & INFINITY != INFINITY:
-                expected = slow.nearest(slow.value(pattern) * ONE)
+                exact = slow.value(pattern) * ONE
+                expected = slow.nearest(exact), slow.is_whole(exact)
                 tally.same(f"double {pattern:016x} negated",
-                           word_of(pattern ^ MINUS), -word_of(pattern))
+                           word_of(pattern ^ MINUS), negated(word_of(pattern)))
             tally.same(f"double {pattern:016x}", outcome(word_of, pattern),
                        expected)
         n = word(rng)
         tally.same(f"double of {n}", slow.value(pattern_of(n)),
                    Fraction(n, ONE))
-        tally.same(f"double of {n} and back", word_of(pattern_of(n)), n)
+        tally.same(f"double of {n} and back", word_of(pattern_of(n)),
+                   (n, True))
     for n, pattern in ((0, 0), (ONE, 0x3FF0000000000000),
                        (-2 * ONE, 0xC000000000000000),
                        (1, 0x3E70000000000000), (M, 0x405FFFFFFFC00000)):
@@ -470,9 +500,9 @@ def check_doubles(tally, rng):
             (0, 0), (1, 0), (1 << 52, 0), (0x3E5FFFFFFFFFFFFF, 0),
             (0x3E60000000000000, 1), (0x3E77FFFFFFFFFFFF, 1),
             (0x3E78000000000000, 2)):
-        tally.same(f"double {pattern:016x}", word_of(pattern), n)
-        tally.same(f"double {pattern | MINUS:016x}", word_of(pattern | MINUS),
-                   -n)
+        tally.same(f"double {pattern:016x}", word_of(pattern).number, n)
+        tally.same(f"double {pattern | MINUS:016x}",
+                   word_of(pattern | MINUS).number, -n)
 
 
 # Records for the cases below.
@@ -617,22 +647,28 @@ def check_questions(tally, rng):
     tally.same("formula", outcome(formula_of, broken, 5), refused(1, 24))
 
 
-def check_steps_as_bytes(tally, rng):
-    """The steps after the word and after the pattern; 0 when refused. For 9 it
-    is 16384 (9216), 12800 (11796), 12298 (12278), 12288 (12288), 12288."""
+def check_values_as_bytes(tally, rng):
+    """The steps after the word and after the pattern, then the mark; all are 0
+    when refused. For 9 it is 16384 (9216), 12800 (11796), 12298 (12278),
+    12288 (12288), 12288, and exact; for 8 it is 16384 (8192), 12288 (10922),
+    11605 (11565), 11585 (11585), 11585, and rounded. A double a little above
+    9 is rounded to it."""
     sheet = framing(START, 1) + root_record(5, 4, 9) + framing(END, 1)
     for question, expected in (
-            (ask_evaluate(sheet, 5, 9), "00 00000000 00300000 0400"),
-            (ask_evaluate(sheet, 5, 10), "0A 00000000 00000000 0000"),
-            (ask_evaluate(sheet, 4, 9), "0B 00000000 00000000 0000"),
-            (ask_evaluate(sheet[:-1], 5, 9), "01 18000000 00000000 0000"),
+            (ask_evaluate(sheet, 5, 9), "00 00000000 00300000 0400 0100"),
+            (ask_evaluate(sheet, 5, 8), "00 00000000 412D0000 0400 0000"),
+            (ask_evaluate(sheet, 5, 10), "0A 00000000 00000000 0000 0000"),
+            (ask_evaluate(sheet, 4, 9), "0B 00000000 00000000 0000 0000"),
+            (ask_evaluate(sheet[:-1], 5, 9), "01 18000000 00000000 0000 0000"),
             (ask_double(sheet, 5, pattern_of(9)),
-             "00 00000000 000000000000483F 0400"),
+             "00 00000000 000000000000483F 0400 0100"),
+            (ask_double(sheet, 5, pattern_of(9) + 1),
+             "00 00000000 000000000000483F 0400 0000"),
             (ask_double(sheet, 5, pattern_of(10)),
-             "0A 00000000 0000000000000000 0000"),
+             "0A 00000000 0000000000000000 0000 0000"),
             (ask_double(sheet, 5, INFINITY),
-             "0D 00000000 0000000000000000 0000")):
-        tally.same("steps as bytes", answer_to(*question),
+             "0D 00000000 0000000000000000 0000 0000")):
+        tally.same("values as bytes", answer_to(*question),
                    bytes.fromhex(expected))
 
 
@@ -659,11 +695,12 @@ def check_order_of_15(tally, rng):
                 tally.same(f"{question.__name__} {number} at {angle:08x}",
                            outcome(question, given, number, angle), expected)
         for ask, question in ((ask_sine, sine), (ask_cosine, cosine)):
+            word, _, exact = question(sheet, 7, angle)
             tally.same("answered", answer_to(*ask(sheet, 7, angle)),
-                       bytes(5) + question(sheet, 7, angle).word.to_bytes(
-                           4, "little", signed=True) + bytes(2))
+                       bytes(5) + word.to_bytes(4, "little", signed=True)
+                       + bytes((0, 0, exact, 0)))
             tally.same("refused", answer_to(*ask(sheet, 5, angle)),
-                       b"\x0f" + bytes(10))
+                       b"\x0f" + bytes(12))
 
 
 def check_ends(tally, rng):
@@ -686,7 +723,8 @@ def check_ends(tally, rng):
         for near, n in ((pattern - 1, towards_0), (pattern, tie)):
             tally.same(f"{halves} halves, ends {lo} and {hi}",
                        outcome(evaluate_double, sheet, 5, near),
-                       refused(10) if n is None else (pattern_of(n), 0))
+                       refused(10) if n is None
+                       else (pattern_of(n), 0, False))
         tally.same("far beyond",
                    outcome(evaluate_double, sheet, 5, INFINITY - 1),
                    refused(10))
@@ -784,58 +822,66 @@ def kinds_asked(question, content):
     return {formula_of(sheet, int.from_bytes(content[:2], "little")).kind}
 
 
-# Where an answer has its steps.
+# Where an answer has its steps; the mark is its last two bytes.
 STEPS_AT = {EVALUATE: 9, DOUBLE: 13, SINE: 9, COSINE: 9}
+
+# What the vectors have to meet: in each question, the refusals; the kinds that
+# are accepted (0) or refused by 15; the steps and the marks, beside a refusal
+# (True) and not.
+SHEETS = range(10)
+REFUSALS_MET = {
+    COUNT: {*SHEETS}, FORMULA: {*SHEETS, 11}, EVALUATE: {*SHEETS, 10, 11},
+    DOUBLE: {*SHEETS, 10, 11, 13}, INTERVAL: {*SHEETS, 11},
+    RECORD: {0, 2, 3, 6, 7, 8, 12}, SHEET: {*range(9), 12},
+    SINE: {*SHEETS, 11, 15}, COSINE: {*SHEETS, 11, 15}}
+KINDS_MET = {*((question, 0, kind) for question in range(1, 8)
+               for kind in KINDS),
+             *((question, 15, kind) for question in (SINE, COSINE)
+               for kind in KINDS), (SINE, 0, ODD), (COSINE, 0, ODD)}
+STEPS_MET = {*((question, False, taken) for question in (EVALUATE, DOUBLE)
+               for taken in FIRST_AND_LAST),
+             *((question, was_refused, 0) for question in STEPS_AT
+               for was_refused in (False, True))}
+MARKS_MET = {(question, was_refused, mark) for question in STEPS_AT
+             for was_refused, mark in ((False, b"\1\0"), (False, b"\0\0"),
+                                       (True, b"\0\0"))}
 
 
 def check_vectors(tally, rng):
     """The committed vectors are this oracle's answers, and every refusal that
-    a question has is among them, every kind accepted or refused by 15, and
-    every number of steps."""
+    a question has is among them, every kind accepted or refused by 15, every
+    number of steps, and both marks."""
     packed = Path(__file__).with_name("vectors.xz").read_bytes()
-    met = set()
-    kinds = set()
-    steps = set()
+    refusals = {question: set() for question in REFUSALS_MET}
+    kinds, steps, marks = set(), set(), set()
     count = 0
     for question, content, found in taken_apart(lzma.decompress(packed)):
         tally.same(f"vector {count}", found, answer_to(question, content))
-        met.add((question, found[0]))
+        refusals[question].add(found[0])
         if found[0] in (0, 15):
             kinds |= {(question, found[0], kind)
                       for kind in kinds_asked(question, content)}
         if question in STEPS_AT:
-            steps.add((question, found[0] != 0, found[STEPS_AT[question]]))
+            was_refused = found[0] != 0
+            steps.add((question, was_refused, found[STEPS_AT[question]]))
+            marks.add((question, was_refused, found[-2:]))
         count += 1
     tally.same("at least 10,000 vectors", count >= 10000, True)
-    tally.same("every kind in every question", kinds,
-               {*((question, 0, kind) for question in range(1, 8)
-                  for kind in KINDS),
-                *((question, 15, kind) for question in (8, 9)
-                  for kind in KINDS), (8, 0, ODD), (9, 0, ODD)})
-    tally.same("every number of steps", steps,
-               {*((question, False, taken) for question in (3, 4)
-                  for taken in FIRST_AND_LAST),
-                *((question, was_refused, 0) for question in STEPS_AT
-                  for was_refused in (False, True))})
-    sheet = range(10)
-    for question, numbers in (
-            (1, sheet), (2, (*sheet, 11)), (3, (*sheet, 10, 11)),
-            (4, (*sheet, 10, 11, 13)), (5, (*sheet, 11)),
-            (6, (0, 2, 3, 6, 7, 8, 12)), (7, (*range(9), 12)),
-            (8, (*sheet, 11, 15)), (9, (*sheet, 11, 15))):
-        tally.same(f"question {question}", sorted(
-            number for asked, number in met if asked == question),
-            sorted(numbers))
+    tally.same("every refusal", refusals, REFUSALS_MET)
+    tally.same("every kind in every question", kinds, KINDS_MET)
+    tally.same("every number of steps", steps, STEPS_MET)
+    tally.same("both marks", marks, MARKS_MET)
 
 
-CHECKS = (check_by_hand, check_rounding, check_bounds, check_halves,
-          check_slips, check_roots_by_hand, check_roots, check_steps,
-          check_most_steps, check_formulas, check_polynomials,
-          check_opposite_arguments, check_turns_by_hand,
+CHECKS = (check_by_hand, check_rounding, check_rounding_by_hand,
+          check_bounds, check_halves, check_slips, check_roots_by_hand,
+          check_roots, check_steps, check_most_steps, check_formulas,
+          check_polynomials, check_opposite_arguments, check_turns_by_hand,
           check_turns, check_mirrored_angles, check_a_sine, check_doubles,
-          check_order, check_questions, check_steps_as_bytes,
+          check_order, check_questions, check_values_as_bytes,
           check_order_of_15, check_ends, check_round_trips,
-          check_record_writer, check_sheet_writer, check_vectors)
+          check_record_writer, check_sheet_writer, *check_marks.CHECKS,
+          check_vectors)
 
 
 def main():

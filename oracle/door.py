@@ -1,13 +1,14 @@
 """The door for doubles (paper 01, 'Doubles at the desk').
 
 A double is its 64-bit pattern: 1 sign bit, 11 exponent bits, 52 fraction bits.
-The number of steps (request M-103) is given beside it, as in evaluation.
+The number of steps (request M-103) and the mark (M-105) are given beside it,
+as in evaluation; the mark counts the argument's own rounding too.
 """
 
 from typing import NamedTuple
 
 from evaluation import answer_inside
-from number import nearest
+from number import Marked, nearest
 from refusal import Refused
 from sheet import formula_of
 
@@ -21,6 +22,7 @@ class Shown(NamedTuple):
 
     pattern: int
     steps: int
+    exact: bool
 
 
 def word_of(pattern):
@@ -39,7 +41,7 @@ def word_of(pattern):
         digits = -digits
     power = max(exponent, 1) - BIAS - FRACTION_BITS + 24
     if power >= 0:
-        return digits << power
+        return Marked(digits << power, True)
     return nearest(digits, 1 << -power)
 
 
@@ -60,8 +62,9 @@ def pattern_of(n, power=-24):
 def evaluate_double(sheet, number, pattern):
     """1 to 9, then 11, then 13, then 10."""
     formula = formula_of(sheet, number)
-    worked = answer_inside(formula, word_of(pattern))
-    return Shown(pattern_of(worked.word), worked.steps)
+    argument = word_of(pattern)
+    worked = answer_inside(formula, argument.number).counting(argument)
+    return Shown(pattern_of(worked.word), worked.steps, worked.exact)
 
 
 def interval(sheet, number):

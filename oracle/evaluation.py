@@ -1,6 +1,7 @@
 """Evaluation on words (paper 01, 'Refusal numbers and their order').
 
-The answer is a word with its number of steps beside it (request M-103).
+The answer is a word, with its number of steps (request M-103) and its mark
+(M-105) beside it.
 """
 
 from formulas import answer

@@ -1,13 +1,14 @@
 """The six formula kinds: their shape, their answer and their admission.
 
 Paper 01, 'Formula kinds', 'Admission' and the table of 'Sheet layout'; the odd
-and the even polynomial are of request M-100, the steps of M-103.
+and the even polynomial are of request M-100, the steps of M-103, the mark of
+M-105.
 """
 
 from typing import NamedTuple
 
 from number import (
-    M, bound_product, bound_quotient, is_word, product, quotient, root)
+    M, Marked, bound_product, bound_quotient, is_word, product, quotient, root)
 
 POLYNOMIAL = 0x0010
 RATIONAL = 0x0011
@@ -81,7 +82,10 @@ def values_are_good(formula):
     )
 
 
-# Answers ('Formula kinds').
+# Answers ('Formula kinds'). Every number on the way has a mark: it is exact
+# where no product or quotient that it was worked from was rounded. So s counts
+# where the answer is worked from it, whatever it is multiplied by, and nowhere
+# else.
 
 
 class Worked(NamedTuple):
@@ -89,13 +93,38 @@ class Worked(NamedTuple):
 
     word: int
     steps: int  # of Heron's rule; 0 for every kind but the root
+    exact: bool  # or else rounded
+
+    def counting(self, argument):
+        """The same, with a rounding of its argument counted too."""
+        return self._replace(exact=self.exact and argument.exact)
+
+
+def unrounded(word):
+    """A word that is stored or given."""
+    return Marked(word, True)
+
+
+def times(a, b):
+    number, exact = product(a.number, b.number)
+    return Marked(number, exact and a.exact and b.exact)
+
+
+def over(a, d):
+    number, exact = quotient(a.number, d.number)
+    return Marked(number, exact and a.exact and d.exact)
+
+
+def plus(word, n):
+    """A sum is never rounded."""
+    return Marked(word + n.number, n.exact)
 
 
 def polynomial(words, x):
     """The walk over the coefficients; an odd or even formula takes it at s."""
-    running = words[-1]
+    running = unrounded(words[-1])
     for c in reversed(words[:-1]):
-        running = c + product(running, x)
+        running = plus(c, times(running, x))
     return running
 
 
@@ -106,32 +135,33 @@ def factor(mode, j, x, s):
 
 def fraction(words, depth, mode, x):
     """The words are b0, a1, b1, a2, ...: b_j is words[2j], a_j words[2j-1]."""
-    s = product(x, x)
-    t = words[2 * depth]
+    s = times(x, x)
+    t = unrounded(words[2 * depth])
     for j in range(depth, 0, -1):
-        a, b = words[2 * j - 1], words[2 * j - 2]
-        t = b + quotient(product(a, factor(mode, j, x, s)), t)
+        a, b = unrounded(words[2 * j - 1]), words[2 * j - 2]
+        t = plus(b, over(times(a, factor(mode, j, x, s)), t))
     return t
 
 
-def stepless_word(formula, x):
-    """The answer word of a formula of any kind but the root."""
+def without_steps(formula, x):
+    """The answer word of a formula of any kind but the root, marked."""
     words, p = formula.words, formula.p
     if formula.kind == POLYNOMIAL:
         return polynomial(words, x)
     if formula.kind == RATIONAL:
-        return quotient(polynomial(words[:p], x), polynomial(words[p:], x))
+        return over(polynomial(words[:p], x), polynomial(words[p:], x))
     if formula.kind == FRACTION:
         return fraction(words, p, formula.mode, x)
-    even = polynomial(words, product(x, x))
-    return product(even, x) if formula.kind == ODD else even
+    even = polynomial(words, times(x, x))
+    return times(even, x) if formula.kind == ODD else even
 
 
 def answer(formula, x):
     """The answer of an admitted formula for a word x of its interval."""
     if formula.kind == ROOT:
         return Worked(*root(x))
-    return Worked(stepless_word(formula, x), steps=0)
+    word, exact = without_steps(formula, unrounded(x))
+    return Worked(word, 0, exact)
 
 
 # Admission: each function gives 0, or the refusal 7 or 8 that it meets first.

@@ -246,7 +246,7 @@ def ties_with_squares(rng):
     odd number times 2^23.)"""
     for _ in range(50):
         x = 2 + size(rng, 4 * ONE)
-        s = product(x, x)
+        s = product(x, x).number
         if s % ONE != 0:
             c = tied_factor(rng, s)
             for kind in (ODD, EVEN):

@@ -1,6 +1,6 @@
 """Makers of words, formulas, angles and sheets for the vectors, from a
 random.Random; arguments of roots, drawn or found; factors at the seams of
-their halves.
+their halves; formulas of which it is known what is rounded.
 
 Only whole-number draws are used (getrandbits, randrange, choice).
 """
@@ -9,8 +9,8 @@ from struct import pack
 from typing import NamedTuple
 
 from formulas import (
-    EVEN, FRACTION, ODD, POLYNOMIAL, RATIONAL, ROOT, SHAPES, Formula, bounds,
-    factor, polynomial, verdict, word_count)
+    EVEN, FRACTION, ODD, POLYNOMIAL, RATIONAL, ROOT, SHAPES, Formula, answer,
+    bounds, factor, polynomial, unrounded, verdict, word_count)
 from number import (
     M, ONE, bound_product, bound_quotient, product, quotient, root)
 from sheet import END, START
@@ -181,11 +181,21 @@ def tied_divisor(rng, n):
     return signed(rng, 1 << 25 + twos(n))
 
 
+def few_places(rng):
+    """1 to 12 binary places, mostly few."""
+    return rng.choice((1, 1, 2, 3, 4 + rng.randrange(9)))
+
+
+def word_of_places(rng, places, less=0):
+    """A word of so many binary places, at least 1, between 0 and 2, or 2 to a
+    power that is less by some."""
+    return 2 * rng.randrange(1 << places - less) + 1 << 24 - places
+
+
 def tied_argument(rng):
     """A word between 0 and 2 of 1 to 12 binary places, mostly few, so that s
     is exact and, like x, no multiple of one."""
-    places = rng.choice((1, 1, 2, 3, 4 + rng.randrange(9)))
-    return 2 * rng.randrange(1 << places) + 1 << 24 - places
+    return word_of_places(rng, few_places(rng))
 
 
 def tied_walk(rng, count, x, powers=None):
@@ -194,15 +204,20 @@ def tied_walk(rng, count, x, powers=None):
     words = []
     running = 0
     for k in reversed(range(count)):
-        taken = product(running, x)
+        taken = product(running, x).number
         running = tied_factor(rng, x) if powers in (None, k % 2) else taken
         words.append(running - taken)
     return tuple(reversed(words))
 
 
+def walked(words, x):
+    """The word that the walk over the coefficients gives at a word x."""
+    return polynomial(words, unrounded(x)).number
+
+
 def aimed(words, x, value):
     """The coefficients with another c0, so that the answer at x is `value`."""
-    return words[0] + value - polynomial(words, x), *words[1:]
+    return words[0] + value - walked(words, x), *words[1:]
 
 
 def tied_polynomial(rng, kind, count, powers, x):
@@ -210,7 +225,7 @@ def tied_polynomial(rng, kind, count, powers, x):
     one as an odd formula's last product."""
     if kind == POLYNOMIAL:
         return tied_walk(rng, count, x, powers)
-    s = product(x, x)
+    s = product(x, x).number
     words = tied_walk(rng, count, s)
     return aimed(words, s, tied_factor(rng, x)) if kind == ODD else words
 
@@ -220,23 +235,23 @@ def tied_rational(rng, p, q, powers, x):
     quotient."""
     numerator = tied_walk(rng, p, x, powers[0])
     divisor = tied_walk(rng, q, x, powers[1])
-    n = polynomial(numerator, x) or 1
+    n = walked(numerator, x) or 1
     return numerator + aimed(divisor, x, tied_divisor(rng, n))
 
 
 def tied_fraction(rng, depth, mode, x):
     """b0, a1, b1, ... that make every product and every quotient at x a tie;
     b0 is 0."""
-    s = product(x, x)
+    s = product(x, x).number
     words = []
     q = 0
     for j in range(depth, 0, -1):
         v = factor(mode, j, x, s)
         a = tied_factor(rng, v)
-        g = product(a, v)
+        g = product(a, v).number
         t = tied_divisor(rng, g)
         words += [t - q, a]
-        q = quotient(g, t)
+        q = quotient(g, t).number
     return 0, *reversed(words)
 
 
@@ -411,6 +426,195 @@ def leaving(rng, rest, bits=24):
         c += size(rng, max(most_beside(x) - c, 0) >> bits) << bits
         if c <= most_beside(x):
             return rng.choice(((c, x), (x, c)))
+
+
+# Formulas of which it is known what is rounded (request M-105). Below,
+# `rounds` says of each product and quotient of an answer but s, in their
+# order, whether it is rounded or exact.
+
+
+def places(n):
+    """How many binary places a word other than 0 has, in ones."""
+    return max(24 - twos(n), 0)
+
+
+def marked_factor(rng, v, rounded):
+    """A word between -2 and 2 whose product with v, no multiple of one, is not
+    0 and is rounded or exact."""
+    while True:
+        a = rng.getrandbits(rng.randrange(26 - places(v))) + 1 << places(v)
+        if rounded:
+            a -= 1 + rng.randrange((1 << places(v)) - 1)
+        if product(a, v).number != 0:
+            return signed(rng, a)
+
+
+def marked_divisor(rng, n, rounded):
+    """A word by which n, not 0, has a quotient that is rounded or exact: an
+    odd number below 32 times a power of two."""
+    while True:
+        d = signed(rng, 2 * rng.randrange(16) + 1 << 21 + rng.randrange(6))
+        if (n * ONE % d != 0) == rounded:
+            return d
+
+
+def marked_walk(rng, x, rounds):
+    """Coefficients whose walk at x takes such products."""
+    words = []
+    taken = 0
+    for rounded in rounds:
+        running = marked_factor(rng, x, rounded)
+        words.append(running - taken)
+        taken = product(running, x).number
+    words.append(signed(rng, size(rng, 2 * ONE)))
+    return tuple(reversed(words))
+
+
+def marked_rational(rng, p, x, rounds):
+    """Numerator and divisor: both walks, then the quotient."""
+    *walks, last = rounds
+    n = signed(rng, word_of_digits(rng, 1 + rng.randrange(25)))
+    numerator = marked_walk(rng, x, walks[:p - 1])
+    divisor = marked_walk(rng, x, walks[p - 1:])
+    return (*aimed(numerator, x, n),
+            *aimed(divisor, x, marked_divisor(rng, n, last)))
+
+
+def marked_term(rng, v, inner, of_product, of_quotient):
+    """a, t and the quotient of a fraction's term, which is below a quarter; t
+    is so far above the quotient inside it that Admission takes it."""
+    while True:
+        a = marked_factor(rng, v, of_product)
+        g = product(a, v).number
+        t = marked_divisor(rng, g, of_quotient)
+        q = quotient(g, t).number
+        if abs(t) > 8 * abs(inner) and abs(q) < ONE // 4:
+            return a, t, q
+
+
+def marked_fraction(rng, depth, mode, x, rounds):
+    """b0, a1, b1, ...: a product and a quotient for each term, the innermost
+    first; x is below a quarter."""
+    s = product(x, x).number
+    words = []
+    q = 0
+    for j, *both in zip(range(depth, 0, -1), rounds[::2], rounds[1::2]):
+        inner = q
+        a, t, q = marked_term(rng, factor(mode, j, x, s), inner, *both)
+        words += [t - inner, a]
+    return signed(rng, size(rng, 2 * ONE)), *reversed(words)
+
+
+def marked_words(rng, kind, mode, p, x, rounds):
+    """Coefficients of any kind but the root."""
+    s = product(x, x).number
+    if kind == POLYNOMIAL:
+        return marked_walk(rng, x, rounds)
+    if kind == RATIONAL:
+        return marked_rational(rng, p, x, rounds)
+    if kind == FRACTION:
+        return marked_fraction(rng, p, mode, x, rounds)
+    if kind == EVEN:
+        return marked_walk(rng, s, rounds)
+    *walk, last = rounds
+    return aimed(marked_walk(rng, s, walk), s, marked_factor(rng, x, last))
+
+
+def roundings(kind, p, q):
+    """How many products and quotients an answer takes, s apart."""
+    return {POLYNOMIAL: p - 1, EVEN: p - 1, ODD: p, RATIONAL: p + q - 1,
+            FRACTION: 2 * p}[kind]
+
+
+def marked_argument(rng, square, less=0):
+    """A word between 0 and 2, or 2 to a power that is less by some, whose
+    square is rounded or exact; neither is a multiple of one."""
+    while True:
+        few, many = min(few_places(rng) + less, 12), 13 + rng.randrange(12)
+        x = word_of_places(rng, many if square else few, less)
+        if product(x, x).number % ONE != 0:
+            return x
+
+
+def marked_formula(rng, kind, mode, p, q, square, rounds):
+    """An accepted formula on -x to x whose products and quotients at x are as
+    said, and so is the square of x, whether the answer uses it or not."""
+    while True:
+        less = 3 if kind == FRACTION else rng.randrange(4)
+        x = marked_argument(rng, square, less)
+        words = marked_words(rng, kind, mode, p, x, rounds)
+        formula = Formula(kind, 1, -x, x, p, q, mode, words)
+        if verdict(formula) == 0:
+            return formula
+
+
+def marked_quarter_formula(rng, p, square, rounds):
+    """An odd formula for sine and cosine, and the argument between 0 and one
+    at which its products are as said."""
+    while True:
+        drawn = marked_formula(rng, ODD, 0, p, 0, square, rounds)
+        formula = drawn._replace(lo=rng.choice((0, -ONE)), hi=ONE)
+        if drawn.hi < ONE and verdict(formula) == 0:
+            return formula, drawn.hi
+
+
+def few_digits(rng):
+    """A word between -4 and 4 of at most 4 binary digits, zeros after them."""
+    return signed(rng, rng.randrange(16) << rng.randrange(23))
+
+
+def plain_formula(rng, kind, mode, p, q):
+    """An accepted formula of such words, and with an end of few places."""
+    while True:
+        words = tuple(few_digits(rng) for _ in range(word_count(kind, p, q)))
+        x = word_of_places(rng, few_places(rng))
+        lo = 0 if kind == ROOT else -x
+        formula = Formula(kind, 1, lo, x, p, q, mode, words)
+        if verdict(formula) == 0:
+            return formula
+
+
+# Formulas on -x to x that give the exact value at x, though there are
+# roundings on the way.
+
+
+def over_itself(rng, rounds):
+    """A rational of a polynomial over itself, or over it negated: one, or
+    minus one."""
+    while True:
+        x = marked_argument(rng, square=False)
+        words = marked_walk(rng, x, rounds)
+        sign = signed(rng, 1)
+        formula = Formula(RATIONAL, 1, -x, x, len(words), len(words), 0,
+                          (*words, *(sign * c for c in words)))
+        if verdict(formula) == 0:
+            return formula
+
+
+def over_its_product(rng, mode):
+    """A fraction of one term, b1 a k-th of the exact product of a1 and v, in
+    ones. It gives k more than b0 where the quotient is rounded to k again."""
+    while True:
+        x = marked_argument(rng, square=False)
+        v = factor(mode, 1, x, product(x, x).number)
+        a, k = 1 + rng.randrange(200), 1 + rng.randrange(9)
+        b0 = signed(rng, size(rng, ONE))
+        formula = Formula(FRACTION, 1, -x, x, 1, 0, mode, (b0, a, a * v // k))
+        if (a * v % k == 0 and a * v % ONE != 0 and verdict(formula) == 0
+                and answer(formula, x).word == b0 + k):
+            return formula
+
+
+def about_its_turn(rng, kind):
+    """An even formula c0 + c1 s + c2 s^2 near where it turns, so that it has
+    no use of how s is rounded; or an odd one. x is an odd number of 2^11 steps
+    and s, near one, a quarter of its square, so never whole. c2 is 4 k, and c1
+    makes c1 + c2 s the whole number -4 k."""
+    k = signed(rng, 1 + rng.randrange(3))
+    side = 8193 + 2 * rng.randrange(-300, 300)
+    even = rng.randrange(-2048, 2048) << 13
+    words = (even + k * side**2, -k * (4 * ONE + side**2), 4 * k * ONE)
+    return Formula(kind, 1, -(side << 11), side << 11, 3, 0, 0, words)
 
 
 def good_formulas(rng, count):

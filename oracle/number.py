@@ -3,8 +3,11 @@
 A word is a whole number from -M to M and stands for itself divided by 2^24.
 All arithmetic is on whole numbers of any size: a product or quotient that is
 no word is given as the whole number it is. Admission keeps formulas from it.
-A root is worked by Heron's rule (request M-103).
+A root is worked by Heron's rule (request M-103). What is rounded says whether
+it had to be (M-105).
 """
+
+from typing import NamedTuple
 
 ONE = 1 << 24
 M = 2147483647  # the largest word
@@ -15,14 +18,21 @@ def is_word(n):
     return -M <= n <= M
 
 
+class Marked(NamedTuple):
+    """A whole number and its mark: exact, or else rounded."""
+
+    number: int
+    exact: bool
+
+
 def nearest(a, d):
     """a / d rounded to the nearest whole number, a tie going away from zero
-    (request M-101).
+    (request M-101); exact where a / d is a whole number itself.
 
     Its size is the floor of |a|/|d| + 1/2; its sign is that of a / d.
     """
     size = (2 * abs(a) + abs(d)) // (2 * abs(d))
-    return size if (a < 0) == (d < 0) else -size
+    return Marked(size if (a < 0) == (d < 0) else -size, a % d == 0)
 
 
 def rounded_up(a, d):
@@ -73,6 +83,9 @@ def heron(v):
 
 
 def root(x):
-    """The largest whole r with r*r not above x * 2^24 ('Formula kinds'), and
-    the number of steps to it; for x = 0 there are none."""
-    return heron(x * ONE) if x != 0 else (0, 0)
+    """The largest whole r with r*r not above x * 2^24 ('Formula kinds'), the
+    number of steps to it, none for x = 0, and whether it is exact: whether its
+    square is x * 2^24 (request M-105)."""
+    v = x * ONE
+    r, steps = heron(v) if v != 0 else (0, 0)
+    return r, steps, r * r == v

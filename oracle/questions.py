@@ -15,8 +15,8 @@ from writing import write_record, write_sheet
 
 FIELDS = "<HHiiHHH32i"
 FIELD_WORDS = 32
-WORKED = "<iH"  # word, steps
-SHOWN = "<QH"  # pattern, steps
+WORKED = "<iHH"  # word, steps, mark
+SHOWN = "<QHH"  # pattern, steps, mark
 
 (COUNT, FORMULA, EVALUATE, DOUBLE, INTERVAL, RECORD, SHEET, SINE,
  COSINE) = range(1, 10)

@@ -6,6 +6,7 @@ no arithmetic with the modules it is compared with.
 
 from fractions import Fraction
 from math import isqrt
+from typing import NamedTuple
 
 from formulas import (
     EVEN, FRACTION, ODD, POLYNOMIAL, POLYNOMIALS, RATIONAL, ROOT)
@@ -35,6 +36,11 @@ def upward(value):
     """'The same with rounding up instead.'"""
     below = downward(value)
     return below if below == value else below + 1
+
+
+def is_whole(value):
+    """There is nothing to round."""
+    return downward(value) == value
 
 
 def product(a, b):
@@ -113,6 +119,12 @@ def product_from_halves(a, b):
     return -size if (a < 0) != (b < 0) else size
 
 
+def exact_from_halves(a, b):
+    """The 24 bits below a step are all 0."""
+    d0, d1, _, _ = long_product(abs(a), abs(b))
+    return d0 == 0 and d1 & 2**8 - 1 == 0
+
+
 def bound_product_from_halves(a, b):
     """With a step less one part (2^24 - 1) added."""
     return in_steps(long_product(a, b), 2**16 - 1, 2**8 - 1)
@@ -187,9 +199,100 @@ def word(formula, x):
     return root(x)
 
 
+# The mark (request M-105).
+
+
+class Taken(NamedTuple):
+    """A product or quotient in an evaluation: its part there, the two numbers
+    it is taken of, and what it is before it is rounded."""
+
+    part: str
+    a: int
+    b: int
+    exact: Fraction
+
+
+def product_taken(part, a, b):
+    return Taken(part, a, b, Fraction(a * b, STEPS))
+
+
+def quotient_taken(part, a, d):
+    return Taken(part, a, d, Fraction(a * STEPS, d))
+
+
+def taken_in_walk(part, c, x):
+    """Every running word but the last is multiplied by x."""
+    return [product_taken(part, running, x) for running in walk(c, x)[:-1:2]]
+
+
+def taken_in_fraction(b_and_a, v):
+    """A product and a quotient for each term, the innermost first."""
+    if not v:
+        return []
+    b, a, *rest = b_and_a
+    return [*taken_in_fraction(rest, v[1:]),
+            product_taken("term's product", a, v[0]),
+            quotient_taken("term's quotient", product(a, v[0]),
+                           fraction(rest, v[1:]))]
+
+
+def uses_square(formula):
+    """'An s that the answer never uses': by the rule's shape alone."""
+    if formula.kind == FRACTION:
+        return formula.mode == 1 or formula.mode == 2 and formula.p > 1
+    return formula.kind in (ODD, EVEN) and formula.p > 1
+
+
+def square_taken(x):
+    return product_taken("square", x, x)
+
+
+def taken_from_square(formula, x):
+    """All that comes after s in an odd or even formula."""
+    s = product(x, x)
+    walked = taken_in_walk("product", formula.words, s)
+    last = product_taken("last product", polynomial(formula.words, s), x)
+    return [*walked, last] if formula.kind == ODD else walked
+
+
+def taken(formula, x):
+    """Every product and quotient that counts, the first of them first; of a
+    root there is none."""
+    words, p = formula.words, formula.p
+    square = [square_taken(x)] if uses_square(formula) else []
+    if formula.kind == POLYNOMIAL:
+        return taken_in_walk("product", words, x)
+    if formula.kind == RATIONAL:
+        n, d = polynomial(words[:p], x), polynomial(words[p:], x)
+        return [*taken_in_walk("product", words[:p], x),
+                *taken_in_walk("divisor's product", words[p:], x),
+                quotient_taken("quotient", n, d)]
+    if formula.kind == FRACTION:
+        v = factors(formula.mode, p, x, product(x, x))
+        return [*square, *taken_in_fraction(words, v)]
+    if formula.kind == ROOT:
+        return []
+    return [*square, *taken_from_square(formula, x)]
+
+
+def exact(formula, x):
+    """'No product or quotient in it was rounded'; 'a root is exact when its
+    square is the scaled argument'."""
+    if formula.kind == ROOT:
+        return root(x)**2 == x * STEPS
+    return all(is_whole(n.exact) for n in taken(formula, x))
+
+
 def answer(formula, x):
-    """The word, and the number of steps beside it."""
-    return word(formula, x), steps_of_heron(formula, x)
+    """The word, with the number of steps and the mark beside it."""
+    return word(formula, x), steps_of_heron(formula, x), exact(formula, x)
+
+
+def answer_near(formula, argument):
+    """The answer at the word nearest to an argument of any exact number of
+    steps; that rounding is added to the mark."""
+    *found, mark = answer(formula, nearest(argument))
+    return *found, mark and is_whole(argument)
 
 
 def in_quarters(angle):
@@ -197,43 +300,89 @@ def in_quarters(angle):
     return 4 * Fraction(angle, 2**32)
 
 
-def sine(formula, angle):
-    """The argument goes from 0 to one in a quarter, in two more to minus one,
-    and in the last to 0; the odd formula answers with its sign."""
+def under_sine(angle):
+    """The argument, in steps: it goes from 0 to one in a quarter, in two more
+    to minus one, and in the last to 0."""
     turned = in_quarters(angle)
     if 1 < turned <= 3:
         turned = 2 - turned
     elif turned > 3:
         turned -= 4
-    return answer(formula, nearest(turned * STEPS))
+    return turned * STEPS
+
+
+def under_cosine(angle):
+    """The argument, in steps: it is one at 0, and less by as many quarters as
+    the angle is away from 0, on whichever side is nearer."""
+    turned = in_quarters(angle)
+    return (1 - min(turned, 4 - turned)) * STEPS
+
+
+def sine(formula, angle):
+    """The odd formula answers with its sign."""
+    return answer_near(formula, under_sine(angle))
 
 
 def cosine(formula, angle):
-    """The argument is one at 0, and less by as many quarters as the angle is
-    away from 0, on whichever side is nearer."""
-    turned = in_quarters(angle)
-    away = min(turned, 4 - turned)
-    return answer(formula, nearest((1 - away) * STEPS))
+    return answer_near(formula, under_cosine(angle))
+
+
+# Values that nothing is rounded in. An argument, like a value, is in steps,
+# and need not be whole.
+
+
+def exact_polynomial(c, in_ones):
+    return sum(c_k * in_ones**k for k, c_k in enumerate(c))
+
+
+def exact_fraction(b_and_a, v):
+    """The v are in ones."""
+    if not v:
+        return Fraction(b_and_a[0])
+    b, a, *rest = b_and_a
+    return b + a * v[0] * STEPS / exact_fraction(rest, v[1:])
+
+
+def exact_value(formula, x):
+    """The value of a formula of any kind but the root."""
+    words, p, in_ones = formula.words, formula.p, Fraction(x) / STEPS
+    if formula.kind == POLYNOMIAL:
+        return exact_polynomial(words, in_ones)
+    if formula.kind == RATIONAL:
+        return (exact_polynomial(words[:p], in_ones) * STEPS
+                / exact_polynomial(words[p:], in_ones))
+    if formula.kind == FRACTION:
+        return exact_fraction(
+            words, factors(formula.mode, p, in_ones, in_ones**2))
+    even = exact_polynomial(words, in_ones**2)
+    return even * in_ones if formula.kind == ODD else even
+
+
+def is_the_value(formula, x, found):
+    """A root's value is the number whose square is the scaled argument."""
+    if formula.kind == ROOT:
+        return found**2 == x * STEPS
+    return found == exact_value(formula, x)
 
 
 def exact_and_distance(c, x):
     """A polynomial's exact value at a word x, in steps, and how far from it
     the answer may lie: half of 1 + |x| + ... + |x|^(n-1), x in ones."""
     in_ones = Fraction(x, STEPS)
-    exact = sum(c_k * in_ones**k for k, c_k in enumerate(c))
-    return exact, sum(abs(in_ones)**k for k in range(len(c) - 1)) / Fraction(2)
+    distance = sum(abs(in_ones)**k for k in range(len(c) - 1)) / Fraction(2)
+    return exact_polynomial(c, in_ones), distance
 
 
 def near_enough(formula, x, found):
     """Demand 3's distance; an odd or even formula's is said at the rounded s,
     and an odd one's is |x| times that, plus one half, of x times the value."""
     at = x if formula.kind == POLYNOMIAL else product(x, x)
-    exact, distance = exact_and_distance(formula.words, at)
+    value_there, distance = exact_and_distance(formula.words, at)
     if formula.kind == ODD:
         in_ones = Fraction(x, STEPS)
-        exact *= in_ones
+        value_there *= in_ones
         distance = abs(in_ones) * distance + Fraction(1, 2)
-    return abs(found - exact) <= distance
+    return abs(found - value_there) <= distance
 
 
 class Left(Exception):

@@ -42,10 +42,12 @@ def fit_formula(sheet, number):
 def sine(sheet, number, angle):
     """The odd formula's answer, its word negated in quarters 2 and 3. The
     argument lies in the interval, so every angle is answered; no odd formula
-    takes steps."""
+    takes steps. The mark counts the argument's own rounding (request M-105).
+    """
     formula = fit_formula(sheet, number)
     quarter, f = quarter_and_rest(angle)
-    found = answer(formula, argument_at(quarter, f))
+    argument = argument_at(quarter, f)
+    found = answer(formula, argument.number).counting(argument)
     return found._replace(word=-found.word) if quarter in (2, 3) else found
 
 

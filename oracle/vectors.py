@@ -11,6 +11,7 @@ from random import Random
 from struct import pack, unpack_from
 
 import groups_halves
+import groups_marks
 import groups_numbers
 import groups_roots
 import groups_sheets
@@ -22,7 +23,7 @@ SEED = 1967
 
 GROUPS = (*groups_sheets.GROUPS, *groups_numbers.GROUPS,
           *groups_writers.GROUPS, *groups_turns.GROUPS, *groups_roots.GROUPS,
-          *groups_halves.GROUPS)
+          *groups_halves.GROUPS, *groups_marks.GROUPS)
 
 
 def vector(question, content):
@@ -49,6 +50,12 @@ def taken_apart(data):
         place += 2
         yield question, content, data[place:place + length]
         place += length
+
+
+def vectors_of(groups):
+    """Those of some groups, taken apart."""
+    return [vector for group in groups
+            for vector in taken_apart(b"".join(group_vectors(group)))]
 
 
 def main(path):

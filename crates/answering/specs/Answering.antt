@@ -105,7 +105,7 @@ unfolding answerAt horner polynomialExact rounded padded
 constant-ends = (refl, refl, refl, refl)
 
 -- half of x, over the same: half a step is rounded
-abbrev pub half : Formula
+abbrev half : Formula
 half = formula 1 (shape Polynomial 2 0 0) (negsuc 0) (pos 1) (padded (pos 0 ∷ pos 8388608 ∷ []))
 
 rounded-half : (answerAt 24 half (pos 1) ≡ answered (pos 1) 0 false) × (answerAt 24 half (pos 0) ≡ answered (pos 0) 0 true)

@@ -12,20 +12,20 @@ use Rattle.desk.specs.declared.answers.Shown.{Shown}
 use Rattle.desk.specs.declared.answers.Shown.the-variants.{Value, Refused as NotShown}
 use Rattle.desk.specs.declared.answers.Interval.{Interval}
 use Rattle.desk.specs.declared.answers.Interval.the-variants.{Between, Refused as NoInterval}
-use Rattle.c_answers.specs.Answers.{shown, spanned, ShownBy, Spans}
+use Rattle.c_answers.specs.Answers.{markOf, shown, spanned, ShownBy, Spans}
 use Rattle.c_answers.specs.declared.answers.ShownValue.{ShownValue}
 
 pub shown-by : (s : ℕ) (e : Evaluation) (a : Shown) → ShownAs s e a → ShownBy s e (shown a)
-shown-by s (Answered w) (Value x k) h = (refl, refl, h .0, h .1)
+shown-by s (Answered w) (Value x k t) h = (refl, refl, h .0, h .1, ap markOf (h .2))
 shown-by s (Answered w) (NotShown r) h = absurd h
-shown-by s (Refused q) (Value x k) h = absurd h
+shown-by s (Refused q) (Value x k t) h = absurd h
 shown-by s (Refused q) (NotShown r) h = ap (λ (p : Refusal). shown (NotShown p)) h
 
 -- only one double is exactly a word divided by 2^s
 pub shown-by-once : (s : ℕ) (e : Evaluation) (x y : ShownValue) → ShownBy s e x → ShownBy s e y → x ≡ y
 shown-by-once s (Answered w) x y p q =
     let value = exactly-unique s (w .word) (x .value) (y .value) (p .2) (q .2) in
-    λ i. record { refused = (p .0 ∙ sym (q .0)) i; place = (p .1 ∙ sym (q .1)) i; value = value i; steps = (p .3 ∙ sym (q .3)) i }
+    λ i. record { refused = (p .0 ∙ sym (q .0)) i; place = (p .1 ∙ sym (q .1)) i; value = value i; steps = (p .3 ∙ sym (q .3)) i; exact = (p .4 ∙ sym (q .4)) i }
 shown-by-once s (Refused r) x y p q = p ∙ sym q
 
 pub spans-by : (s : ℕ) (a : Found) (f : Formula) (i : Interval) → IntervalBy s a f i → Spans s a f (spanned i)

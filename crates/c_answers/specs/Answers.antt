@@ -2,6 +2,7 @@
 -- the answers' own crates define.
 use Prim.Native.Nat.{ℕ}
 use mathlib.Core.Path.{_≡_, refl}
+use mathlib.Core.Bool.{Bool, true, false}
 use lib.IntN.{pos}
 use lib.Ieee.{binary64, ofBits}
 use Rattle.formula.specs.declared.Formula.{Formula}
@@ -13,10 +14,10 @@ use Rattle.sheet.specs.declared.answers.FormulaCount.the-variants.{Refused as N
 use Rattle.sheet.specs.declared.answers.Found.{Found}
 use Rattle.sheet.specs.declared.answers.Found.the-variants.{Given, Refused as Withheld}
 use Rattle.sheet.specs.declared.answers.Reading.{Reading}
-use Rattle.answering.specs.Answering.{evaluationNumber, evaluationPlace, evaluationWord, evaluationSteps, answered}
+use Rattle.answering.specs.Answering.{evaluationNumber, evaluationPlace, evaluationWord, evaluationSteps, evaluationExact, answered}
 use Rattle.answering.specs.declared.answers.Evaluation.{Evaluation}
 use Rattle.answering.specs.declared.answers.Evaluation.the-variants.{Answered, Refused}
-use Rattle.desk.specs.Desk.{shownNumber, shownPlace, shownValue, shownSteps, intervalNumber, intervalPlace, intervalLow, intervalHigh}
+use Rattle.desk.specs.Desk.{shownNumber, shownPlace, shownValue, shownSteps, shownExact, intervalNumber, intervalPlace, intervalLow, intervalHigh}
 use Rattle.desk.specs.declared.answers.Shown.{Shown}
 use Rattle.desk.specs.declared.answers.Shown.the-variants.{Value, Refused as NotShown}
 use Rattle.desk.specs.declared.answers.Interval.{Interval}
@@ -46,11 +47,16 @@ fieldsFound a f = record { refused = foundNumber a; place = foundPlace a; fields
 abbrev pub found : Reading → FoundFields
 found r = fieldsFound (r .found) (r .formula)
 
+-- a mark as a number: 1 for exact, 0 for rounded and where there is none
+abbrev pub markOf : Bool → ℕ
+markOf true = 1
+markOf false = 0
+
 abbrev pub worked : Evaluation → WorkedWord
-worked a = record { refused = evaluationNumber a; place = evaluationPlace a; word = evaluationWord a; steps = evaluationSteps a }
+worked a = record { refused = evaluationNumber a; place = evaluationPlace a; word = evaluationWord a; steps = evaluationSteps a; exact = markOf (evaluationExact a) }
 
 abbrev pub shown : Shown → ShownValue
-shown a = record { refused = shownNumber a; place = shownPlace a; value = shownValue a; steps = shownSteps a }
+shown a = record { refused = shownNumber a; place = shownPlace a; value = shownValue a; steps = shownSteps a; exact = markOf (shownExact a) }
 
 abbrev pub spanned : Interval → IntervalEnds
 spanned a = record { refused = intervalNumber a; place = intervalPlace a; low = intervalLow a; high = intervalHigh a }
@@ -60,7 +66,7 @@ written a = record { refused = writingNumber a; place = writingPlace a; length =
 
 -- ---- doubles at s binary places: which double is exactly a word divided by 2^s is said by a relation
 abbrev pub ShownBy : ℕ → Evaluation → ShownValue → Type 0
-ShownBy s (Answered w) x = (x .refused ≡ 0) × (x .place ≡ 0) × Exactly s (w .word) (x .value) × (x .steps ≡ w .steps)
+ShownBy s (Answered w) x = (x .refused ≡ 0) × (x .place ≡ 0) × Exactly s (w .word) (x .value) × (x .steps ≡ w .steps) × (x .exact ≡ markOf (w .exact))
 ShownBy s (Refused r) x = x ≡ shown (NotShown r)
 
 abbrev pub Spans : ℕ → Found → Formula → IntervalEnds → Type 0
@@ -81,12 +87,14 @@ refused-count :
 refused-count = (refl, refl, refl)
 
 refused-word :
-    (worked (Refused (refusal 0 10)) ≡ record { refused = 10; place = 0; word = pos 0; steps = 0 })
-    × (shown (NotShown (refusal 0 13)) ≡ record { refused = 13; place = 0; value = ofBits binary64 0; steps = 0 })
+    (worked (Refused (refusal 0 10)) ≡ record { refused = 10; place = 0; word = pos 0; steps = 0; exact = 0 })
+    × (shown (NotShown (refusal 0 13)) ≡ record { refused = 13; place = 0; value = ofBits binary64 0; steps = 0; exact = 0 })
 refused-word = (refl, refl)
 
--- an answer goes out with its steps, as a word and as a double
+-- an answer goes out with its steps and its mark, as a word and as a double
 answered-word :
-    (worked (answered (pos 23726566) 5) ≡ record { refused = 0; place = 0; word = pos 23726566; steps = 5 })
-    × (shown (Value (ofBits binary64 0) 7) ≡ record { refused = 0; place = 0; value = ofBits binary64 0; steps = 7 })
-answered-word = (refl, refl)
+    (worked (answered (pos 23726566) 5 false) ≡ record { refused = 0; place = 0; word = pos 23726566; steps = 5; exact = 0 })
+    × (worked (answered (pos 3) 0 true) ≡ record { refused = 0; place = 0; word = pos 3; steps = 0; exact = 1 })
+    × (shown (Value (ofBits binary64 0) 7 true) ≡ record { refused = 0; place = 0; value = ofBits binary64 0; steps = 7; exact = 1 })
+    × (shown (Value (ofBits binary64 0) 7 false) ≡ record { refused = 0; place = 0; value = ofBits binary64 0; steps = 7; exact = 0 })
+answered-word = (refl, refl, refl, refl)

@@ -1,5 +1,5 @@
 // What C is given, by value: include/valvepigeon.h declares the same structs. `refused` is 0 or the paper's number; in a
-// refusal every field past `place` is 0.
+// refusal every field past `place` is 0. `exact` is 1 or 0.
 
 // A formula's fields, in and out. `kind` is the code of the record's kind; p is the count of a polynomial, odd and even ones
 // included, the numerator's count or the depth, q the divisor's count; `words` are the coefficients in stored order.
@@ -35,6 +35,7 @@ pub struct WorkedWord {
     pub place: u64,
     pub word: i32,
     pub steps: u16,
+    pub exact: u16,
 }
 
 #[repr(C)]
@@ -43,6 +44,7 @@ pub struct ShownValue {
     pub place: u64,
     pub value: f64,
     pub steps: u16,
+    pub exact: u16,
 }
 
 #[repr(C)]

@@ -1,6 +1,6 @@
 // Each answer of the library as the struct that C is given.
 ghost use mathlib.Core.Path.{_≡_};
-ghost use Rattle.c_answers.specs.Answers.{counted, found, worked, shown, spanned, written};
+ghost use Rattle.c_answers.specs.Answers.{counted, found, markOf, worked, shown, spanned, written};
 use crate::answers::CountedFormulas;
 use crate::answers::FoundFields;
 use crate::answers::IntervalEnds;
@@ -52,6 +52,13 @@ pub fn found(reading: Reading) -> FoundFields
     }
 }
 
+// 1 for exact, 0 for rounded.
+fn mark(exact: bool) -> u16
+    ensures { λ r. ⌜ r ≡ markOf exact ⌝ }
+{
+    if exact { 1 } else { 0 }
+}
+
 pub fn worked(answer: Evaluation) -> WorkedWord
     ensures { λ r. ⌜ r ≡ worked answer ⌝ }
 {
@@ -61,12 +68,14 @@ pub fn worked(answer: Evaluation) -> WorkedWord
             place: 0,
             word: w.word,
             steps: w.steps,
+            exact: mark(w.exact),
         },
         Evaluation::Refused(r) => WorkedWord {
             refused: r.number as u32,
             place: r.place as u64,
             word: 0,
             steps: 0,
+            exact: 0,
         },
     }
 }
@@ -75,17 +84,19 @@ pub fn shown(answer: Shown) -> ShownValue
     ensures { λ r. ⌜ r ≡ shown answer ⌝ }
 {
     match answer {
-        Shown::Value(value, steps) => ShownValue {
+        Shown::Value(value, steps, exact) => ShownValue {
             refused: 0,
             place: 0,
             value,
             steps,
+            exact: mark(exact),
         },
         Shown::Refused(r) => ShownValue {
             refused: r.number as u32,
             place: r.place as u64,
             value: 0.0,
             steps: 0,
+            exact: 0,
         },
     }
 }

@@ -10,14 +10,15 @@ use Rattle.door.specs.Taken.{takenOf}
 use Rattle.layout.specs.Fields.{wordsIn}
 use Rattle.sheet.specs.Reader.{Fit, formulaRead}
 use Rattle.sheet.proofs.FormulasGiven.{given-scale, given-fits}
-use Rattle.answering.specs.Answering.{evaluationSteps}
+use Rattle.answering.specs.Answering.{evaluationSteps, answerAt}
+use Rattle.answering.proofs.MarkLaws.{marked-steps}
 use Rattle.board.proofs.FewSteps.{argument-tells, given-tells}
 use Rattle.desk.specs.Desk.{shownSteps, takenBy, takenAt, evaluatedDouble, ShownAs}
 use Rattle.desk.specs.declared.answers.Shown.{Shown}
 use Rattle.desk.proofs.SameNumbers.{shown-steps}
 
 taken-steps : (s : ℕ) (f : Formula) (t : Taken) → Scale s → Fit s f → evaluationSteps (takenBy s f t) ≤ 7
-taken-steps s f (Took w) scale fits = argument-tells (λ (k : ℕ). k ≤ 7) s f w scale fits (omega arith) (formula-steps s (f .shape) (wordsIn f) w)
+taken-steps s f (Took w t) scale fits = rw (marked-steps t (answerAt s f w)) (argument-tells (λ (k : ℕ). k ≤ 7) s f w scale fits (omega arith) (formula-steps s (f .shape) (wordsIn f) w))
 taken-steps s f NoWord scale fits = omega arith
 taken-steps s f NotFinite scale fits = omega arith
 

@@ -4,5 +4,6 @@ pub mod SameNumbers
 pub mod DoublesInside
 pub mod BothSides
 pub mod FewSteps
+pub mod ExactDoubles
 pub mod WhichRefusals
 pub mod Settled

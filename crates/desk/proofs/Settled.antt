@@ -1,5 +1,5 @@
 -- Promise: each public function of the desk asks nothing of its caller, and settles its result: two results that satisfy its contract are equal.
-use Rattle.whole.proofs.Basics.{_≡_, _∙_, sym, ap, ap₂, ℕ, now}
+use Rattle.whole.proofs.Basics.{_≡_, _∙_, sym, ap, ℕ, now}
 use Rattle.whole.proofs.Settled.{AsksNothing, Settled}
 use Rattle.formula.specs.declared.Formula.{Formula}
 use Rattle.door.proofs.Determined.{exactly-unique, ends-unique}
@@ -20,11 +20,13 @@ use Rattle.desk.proofs.interval.Reads as interval-reads
 
 -- only one double is exactly a word divided by 2^s
 shown-once : (s : ℕ) (e : Evaluation) (x y : Shown) → ShownAs s e x → ShownAs s e y → x ≡ y
-shown-once s (Answered w) (Value x j) (Value y k) p q = ap₂ Value (exactly-unique s (w .word) x y (p .0) (q .0)) (p .1 ∙ sym (q .1))
-shown-once s (Answered w) (Value x j) (NotShown r) p q = absurd q
+shown-once s (Answered w) (Value x j t) (Value y k u) p q =
+    let value = exactly-unique s (w .word) x y (p .0) (q .0) in
+    λ i. Value (value i) ((p .1 ∙ sym (q .1)) i) ((p .2 ∙ sym (q .2)) i)
+shown-once s (Answered w) (Value x j t) (NotShown r) p q = absurd q
 shown-once s (Answered w) (NotShown r) y p q = absurd p
-shown-once s (Refused r) (Value x j) y p q = absurd p
-shown-once s (Refused r) (NotShown x) (Value y k) p q = absurd q
+shown-once s (Refused r) (Value x j t) y p q = absurd p
+shown-once s (Refused r) (NotShown x) (Value y k u) p q = absurd q
 shown-once s (Refused r) (NotShown x) (NotShown y) p q = ap NotShown (p ∙ sym q)
 
 pub evaluate-double-asks-nothing : AsksNothing double-kinds.ps double-reads.Asked

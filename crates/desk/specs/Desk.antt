@@ -1,9 +1,9 @@
 -- A double as the argument, and doubles out: the reader's refusals, then 13, 10. The binary places are s.
 use mathlib.Core.Path.{_≡_, refl}
-use mathlib.Core.Bool.{false}
+use mathlib.Core.Bool.{Bool, true, false}
 use mathlib.Core.List.{List, _∷_}
 use Prim.Native.Nat.{ℕ}
-use lib.IntN.{pos}
+use lib.IntN.{pos, negsuc}
 use lib.Ieee.{Float, nan, fin, binary64, ofBits}
 use Rattle.word.specs.Rounded.{rounded}
 use Rattle.formula.specs.declared.Formula.{Formula}
@@ -16,7 +16,7 @@ use Rattle.sheet.specs.Reader.{formulaRead}
 use Rattle.sheet.specs.declared.answers.Found.{Found}
 use Rattle.sheet.specs.declared.answers.Found.the-variants.{Given, Refused as Withheld}
 use Rattle.sheet.specs.declared.answers.Reading.{Reading}
-use Rattle.answering.specs.Answering.{refused, answerAt, constant}
+use Rattle.answering.specs.Answering.{refused, withMark, answerAt, constant}
 use Rattle.answering.specs.declared.answers.Evaluation.{Evaluation}
 use Rattle.answering.specs.declared.answers.Evaluation.the-variants.{Answered, Refused}
 use Rattle.board.specs.Board.{evaluationRefusals, whenGiven}
@@ -29,22 +29,26 @@ use Rattle.desk.specs.declared.answers.Interval.the-variants.{Between, R
 abbrev plusZero : Float
 plusZero = ofBits binary64 0
 
--- ---- the paper's number, place and values of each case; 0 where there is none
+-- ---- the paper's number, place and values of each case, and the mark; 0 where there is none, and no mark
 abbrev pub shownNumber : Shown → ℕ
-shownNumber (Value x k) = 0
+shownNumber (Value x k e) = 0
 shownNumber (NotShown r) = r .number
 
 abbrev pub shownPlace : Shown → ℕ
-shownPlace (Value x k) = 0
+shownPlace (Value x k e) = 0
 shownPlace (NotShown r) = r .place
 
 abbrev pub shownValue : Shown → Float
-shownValue (Value x k) = x
+shownValue (Value x k e) = x
 shownValue (NotShown r) = plusZero
 
 abbrev pub shownSteps : Shown → ℕ
-shownSteps (Value x k) = k
+shownSteps (Value x k e) = k
 shownSteps (NotShown r) = 0
+
+abbrev pub shownExact : Shown → Bool
+shownExact (Value x k e) = e
+shownExact (NotShown r) = false
 
 abbrev pub intervalNumber : Interval → ℕ
 intervalNumber (Between e) = 0
@@ -66,12 +70,12 @@ intervalHigh (NoInterval r) = plusZero
 abbrev pub doorRefusals : List ℕ
 doorRefusals = 13 ∷ evaluationRefusals
 
--- ---- the door for doubles. Infinite or not a number (13); the rounded value is no word, or outside the interval (10)
+-- ---- the door for doubles. Infinite or not a number (13); the rounded value is no word, or outside the interval (10). The door's own rounding counts
 abbrev notTaken : Taken → Evaluation
 notTaken t = Refused (refusal (takenPlace t) (takenNumber t))
 
 abbrev pub takenBy : ℕ → Formula → Taken → Evaluation
-takenBy s f (Word w) = answerAt s f w
+takenBy s f (Word w exact) = withMark exact (answerAt s f w)
 takenBy s f NoWord = notTaken NoWord
 takenBy s f NotFinite = notTaken NotFinite
 
@@ -81,11 +85,11 @@ takenAt s f x = takenBy s f (takenOf s x)
 abbrev pub evaluatedDouble : ℕ → List ℕ → ℕ → Float → Evaluation
 evaluatedDouble s bytes n x = whenGiven (formulaRead s bytes n .found) (takenAt s (formulaRead s bytes n .formula) x)
 
--- an answer as the door gives it: the double that is exactly the answer word divided by 2^s, with the same steps, or the same refusal
+-- an answer as the door gives it: the double that is exactly the answer word divided by 2^s, with the same steps and mark, or the same refusal
 abbrev pub ShownAs : ℕ → Evaluation → Shown → Type 0
-ShownAs s (Answered w) (Value x k) = Exactly s (w .word) x × (k ≡ w .steps)
+ShownAs s (Answered w) (Value x k e) = Exactly s (w .word) x × (k ≡ w .steps) × (e ≡ w .exact)
 ShownAs s (Answered w) (NotShown r) = ⊥
-ShownAs s (Refused q) (Value x k) = ⊥
+ShownAs s (Refused q) (Value x k e) = ⊥
 ShownAs s (Refused q) (NotShown r) = r ≡ q
 
 -- ---- a formula's interval as two doubles, both exact; its refusals are the reader's
@@ -100,15 +104,18 @@ IntervalAs s r i = IntervalBy s (r .found) (r .formula) i
 
 -- ---- worked examples: what an answer and a refusal tell
 told :
-    (shownNumber (Value plusZero 5) ≡ 0)
-    × (shownPlace (Value plusZero 5) ≡ 0)
-    × (shownValue (Value plusZero 5) ≡ plusZero)
-    × (shownSteps (Value plusZero 5) ≡ 5)
+    (shownNumber (Value plusZero 5 true) ≡ 0)
+    × (shownPlace (Value plusZero 5 true) ≡ 0)
+    × (shownValue (Value plusZero 5 true) ≡ plusZero)
+    × (shownSteps (Value plusZero 5 true) ≡ 5)
+    × (shownExact (Value plusZero 5 true) ≡ true)
+    × (shownExact (Value plusZero 5 false) ≡ false)
     × (shownNumber (NotShown (refusal 8 7)) ≡ 7)
     × (shownPlace (NotShown (refusal 8 7)) ≡ 8)
     × (shownValue (NotShown (refusal 8 7)) ≡ plusZero)
     × (shownSteps (NotShown (refusal 8 7)) ≡ 0)
-told = (refl, refl, refl, refl, refl, refl, refl, refl)
+    × (shownExact (NotShown (refusal 8 7)) ≡ false)
+told = (refl, refl, refl, refl, refl, refl, refl, refl, refl, refl, refl)
 
 -- 10 and 13 of the door
 door-refusals :
@@ -118,3 +125,11 @@ door-refusals :
     × (takenAt 24 constant (fin false 1 (pos 0)) ≡ refused 10)
 unfolding takenOf rounded answerAt
 door-refusals = (refl, refl, refl, refl)
+
+-- a double of one step is exact, half a step is rounded by the door, and minus zero is exact
+door-marks :
+    (takenAt 24 constant (fin false 1 (negsuc 23)) ≡ withMark true (answerAt 24 constant (pos 1)))
+    × (takenAt 24 constant (fin false 1 (negsuc 24)) ≡ withMark false (answerAt 24 constant (pos 1)))
+    × (takenAt 24 constant (fin true 0 (pos 0)) ≡ withMark true (answerAt 24 constant (pos 0)))
+unfolding takenOf rounded
+door-marks = (refl, refl, refl)

@@ -2,9 +2,9 @@
 use door::answer::Ends;
 use faults::Refusal;
 
-// The answer as a double, and the steps beside it; or a refusal.
+// The answer as a double, the steps beside it, and whether it is exact; or a refusal.
 pub enum Shown {
-    Value(f64, u16),
+    Value(f64, u16, bool),
     Refused(Refusal),
 }
 

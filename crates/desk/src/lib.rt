@@ -1,4 +1,4 @@
-// Doubles at the desk: a whole sheet, a number and a double in; a double with its steps, or a numbered refusal, out. A formula's interval as two doubles.
+// Doubles at the desk: a whole sheet, a number and a double in; a double with its steps and its mark, or a numbered refusal, out. A formula's interval as two doubles.
 ghost use mathlib.Core.Path.{_≡_};
 ghost use Rattle.word.specs.Words.{Scale};
 ghost use Rattle.records.specs.Sheets.{FormulaBytes};
@@ -15,13 +15,13 @@ use door::answer::Taken;
 use sheet::answers::Place;
 use sheet::reader;
 
-// A double as the argument: 13 comes before 10.
+// A double as the argument: 13 comes before 10, and the door's own rounding counts in the mark.
 fn taken_of(b: &[u8], x: f64, s: u32) -> Evaluation
     requires { ⌜ Scale s × FormulaBytes s (now b) ⌝ }
     ensures { λ r. ⌜ r ≡ takenAt s (formulaIn (now (b .entry))) x ⌝ }
 {
     match door::taken(x, s) {
-        Taken::Word(w) => answering::answer_of(b, w, s),
+        Taken::Word(w, exact) => answering::with_mark(answering::answer_of(b, w, s), exact),
         Taken::NoWord => answering::refused(10),
         Taken::NotFinite => answering::refused(13),
     }
@@ -32,7 +32,7 @@ fn shown(e: Evaluation, s: u32) -> Shown
     ensures { λ r. ⌜ ShownAs s e r ⌝ }
 {
     match e {
-        Evaluation::Answered(w) => Shown::Value(door::shown(w.word, s), w.steps),
+        Evaluation::Answered(w) => Shown::Value(door::shown(w.word, s), w.steps, w.exact),
         Evaluation::Refused(r) => Shown::Refused(r),
     }
 }

@@ -1,5 +1,5 @@
 -- A polynomial's answer that is marked exact is the exact value: both times 2^(s·n), for n + 1 coefficients. By the walk, since an exact product times 2^s
--- is the whole one. (The other way round is false: two roundings can make up for each other.)
+-- is the whole one.
 use Rattle.whole.proofs.Basics.{_≡_, _∙_, ap, subst, true, List, [], _∷_, ℕ, suc, _*_, _^_, arith, length, ℤ, pos, _+ℤ_, _*ℤ_}
 use native.Mathlib.Nat.{pow-suc}
 use Rattle.whole.proofs.Diff.{v, n, via, _⊕_, _⊗_, same}

@@ -1,4 +1,4 @@
--- `desk::shown` meets its contract: the answer's word by the door, with the same steps, or the same refusal.
+-- `desk::shown` meets its contract: the answer's word by the door, with the same steps and mark, or the same refusal.
 use Rattle.whole.proofs.Basics.{refl, sym, subst, ℤ, w32, SFits, needs}
 use Rattle.whole.proofs.Held.{held, arg}
 use Rattle.door.specs.Exact.{Exactly}
@@ -16,8 +16,8 @@ returns c =
     let d = c .before .before .before in
     let e = d .e .given in
     let s = d .before .before .args .s in
-    subst (λ (i : Evaluation). ShownAs s i (Value (c .shown .result) (e .0 .0 .steps))) (sym (e .1))
-    (subst (λ (z : ℤ). Exactly s z (c .shown .result)) (held (arg {w = w32} {x = e .0 .0 .word} (fits-word (c .before)))) (c .shown .ensures), refl)
+    subst (λ (i : Evaluation). ShownAs s i (Value (c .shown .result) (e .0 .0 .steps) (e .0 .0 .exact))) (sym (e .1))
+    (subst (λ (z : ℤ). Exactly s z (c .shown .result)) (held (arg {w = w32} {x = e .0 .0 .word} (fits-word (c .before)))) (c .shown .ensures), refl, refl)
 
 returns-2 : tie.Need-returns-2
 returns-2 c =
