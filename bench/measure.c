@@ -51,8 +51,8 @@ static void stop(const char *name, const char *why) {
 #define SAME_ANSWER(shape, rest) \
     static int same_##shape(const vp_##shape *a, const vp_##shape *b) { return SAME(refused) && SAME(place) && rest; }
 SAME_ANSWER(counted, SAME(count))
-SAME_ANSWER(worked, SAME(word) && SAME(steps))
-SAME_ANSWER(shown, SAME(value) && SAME(steps))
+SAME_ANSWER(worked, SAME(word) && SAME(steps) && SAME(exact))
+SAME_ANSWER(shown, SAME(value) && SAME(steps) && SAME(exact))
 SAME_ANSWER(ends, SAME(low) && SAME(high))
 SAME_ANSWER(written, SAME(length))
 SAME_ANSWER(found, SAME(fields.kind) && SAME(fields.number) && SAME(fields.lo) && SAME(fields.hi) && SAME(fields.p) && SAME(fields.q) &&

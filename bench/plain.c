@@ -32,18 +32,30 @@ static inline uint64_t long_times(uint32_t a, uint32_t b) {
 #endif
 }
 
+/* Enough of a product to see its last PLACES bits: clang has the lower word apart. */
+#ifdef __clang__
+#define LAST_BITS(product) ((uint32_t)(product))
+#else
+#define LAST_BITS(product) (product)
+#endif
+
 static inline uint32_t size(int32_t x) { return x < 0 ? 0u - (uint32_t)x : (uint32_t)x; }
 
-/* Arithmetic: of words, rounded to the nearest, a tie away from zero, and so by their sizes; of bounds, rounded upward. */
-static inline wide product(int32_t a, int32_t b) {
-    wide n = (wide)((long_times(size(a), size(b)) + ONE / 2) >> PLACES);
+/* Arithmetic: of words, rounded to the nearest, a tie away from zero, and so by their sizes; of bounds, rounded upward. What is rounded off
+   is joined to *loose: the last PLACES bits of that are 0 where nothing was. */
+static inline wide product(int32_t a, int32_t b, uint64_t *loose) {
+    uint64_t whole = long_times(size(a), size(b));
+    wide n = (wide)((whole + ONE / 2) >> PLACES);
+    *loose |= LAST_BITS(whole);
     return (a ^ b) < 0 ? -n : n;
 }
 
-/* The division rounds towards zero, so half of the divisor is added first, away from zero; all is doubled, for the half to be whole. */
-static inline wide quotient(int32_t a, int32_t d) {
-    wide e = d, half = (a ^ d) < 0 ? -e : e;
-    return ((wide)a * (2 * ONE) + half) / (2 * e);
+/* The division rounds towards zero, so half of the divisor is added first, away from zero; all is doubled, for the half to be whole. Where
+   nothing is rounded off, that half is left over. */
+static inline wide quotient(int32_t a, int32_t d, uint64_t *loose) {
+    wide e = d, half = (a ^ d) < 0 ? -e : e, n = (wide)a * (2 * ONE) + half;
+    *loose |= n % (2 * e) != half;
+    return n / (2 * e);
 }
 
 static inline uint64_t bound_product(uint32_t a, uint32_t b) { return (long_times(a, b) + (ONE - 1)) >> PLACES; }
@@ -188,53 +200,71 @@ static inline verdict check_sheet(const uint8_t *sheet, size_t n, uint32_t asked
 #undef REFUSE
 }
 
-/* Evaluation, of an admitted record at an argument of its interval. */
-static inline int32_t horner(const uint8_t *c, uint32_t n, int32_t x) {
+/* Evaluation, of an admitted record at an argument of its interval. A square that is not used rounds nothing off. */
+static inline int32_t horner(const uint8_t *c, uint32_t n, int32_t x, uint64_t *loose) {
     int32_t t = i32(c + 4 * (n - 1));
-    for (uint32_t i = n - 1; i-- > 0;) t = (int32_t)(i32(c + 4 * i) + product(t, x));
+    for (uint32_t i = n - 1; i-- > 0;) t = (int32_t)(i32(c + 4 * i) + product(t, x, loose));
     return t;
 }
 
-static inline int32_t polynomial(const uint8_t *r, int32_t x) { return horner(r + 16, (u32(r) - 16) / 4, x); }
-static inline int32_t even(const uint8_t *r, int32_t x) { return polynomial(r, (int32_t)product(x, x)); }
-static inline int32_t odd(const uint8_t *r, int32_t x) { return (int32_t)product(even(r, x), x); }
+static inline uint32_t coefficients(const uint8_t *r) { return (u32(r) - 16) / 4; }
+static inline int32_t polynomial(const uint8_t *r, int32_t x, uint64_t *loose) { return horner(r + 16, coefficients(r), x, loose); }
 
-static inline int32_t rational(const uint8_t *r, int32_t x) {
-    uint32_t p = u16(r + 16), q = u16(r + 18);
-    return (int32_t)quotient(horner(r + 20, p, x), horner(r + 20 + 4 * p, q, x));
+static inline int32_t even(const uint8_t *r, int32_t x, uint64_t *loose) {
+    uint64_t square = 0;
+    int32_t s = (int32_t)product(x, x, &square);
+    if (coefficients(r) > 1) *loose |= square;
+    return polynomial(r, s, loose);
 }
 
-static inline int32_t fraction(const uint8_t *r, int32_t x) {
+static inline int32_t odd(const uint8_t *r, int32_t x, uint64_t *loose) { return (int32_t)product(even(r, x, loose), x, loose); }
+
+static inline int32_t rational(const uint8_t *r, int32_t x, uint64_t *loose) {
+    uint32_t p = u16(r + 16), q = u16(r + 18);
+    int32_t n = horner(r + 20, p, x, loose), d = horner(r + 20 + 4 * p, q, x, loose);
+    return (int32_t)quotient(n, d, loose);
+}
+
+static inline int32_t fraction(const uint8_t *r, int32_t x, uint64_t *loose) {
     uint32_t mode = u16(r + 16), depth = u16(r + 18);
     const uint8_t *c = r + 20;
-    int32_t rest = mode ? (int32_t)product(x, x) : x, first = mode == 1 ? rest : x, t = i32(c + 8 * depth);
-    for (uint32_t j = depth; j > 0; j--)
-        t = (int32_t)(i32(c + 8 * j - 8) + quotient((int32_t)product(i32(c + 8 * j - 4), j == 1 ? first : rest), t));
+    uint64_t square = 0;
+    int32_t rest = mode ? (int32_t)product(x, x, &square) : x, first = mode == 1 ? rest : x, t = i32(c + 8 * depth);
+    if (mode == 1 || depth > 1) *loose |= square;
+    for (uint32_t j = depth; j > 0; j--) {
+        int32_t g = (int32_t)product(i32(c + 8 * j - 4), j == 1 ? first : rest, loose);
+        t = (int32_t)(i32(c + 8 * j - 8) + quotient(g, t, loose));
+    }
     return t;
 }
 
-/* By Heron's rule, whose steps are added to *steps. */
-static inline int32_t heron(int32_t x, uint16_t *steps) {
+/* By Heron's rule, whose steps are added to *steps. The last division tells whether the root's square is v. */
+static inline int32_t heron(int32_t x, uint16_t *steps, uint64_t *loose) {
     if (x == 0) return 0;
     uint64_t v = (uint64_t)x << PLACES, w = 1ULL << ((65 - __builtin_clzll(v)) / 2);
     for (;;) {
-        uint64_t next = (w + v / w) / 2;
+        uint64_t q = v / w, next = (w + q) / 2;
         ++*steps;
-        if (w <= next) return (int32_t)w;
+        if (w <= next) {
+            *loose |= q != w || v % w;
+            return (int32_t)w;
+        }
         w = next;
     }
 }
 
-static inline int32_t answer(const uint8_t *r, int32_t x, uint16_t *steps) {
+static inline int32_t answer(const uint8_t *r, int32_t x, uint16_t *steps, uint64_t *loose) {
     switch (u16(r + 4)) {
-    case VP_POLYNOMIAL: return polynomial(r, x);
-    case VP_RATIONAL: return rational(r, x);
-    case VP_FRACTION: return fraction(r, x);
-    case VP_ODD: return odd(r, x);
-    case VP_EVEN: return even(r, x);
-    default: return heron(x, steps);
+    case VP_POLYNOMIAL: return polynomial(r, x, loose);
+    case VP_RATIONAL: return rational(r, x, loose);
+    case VP_FRACTION: return fraction(r, x, loose);
+    case VP_ODD: return odd(r, x, loose);
+    case VP_EVEN: return even(r, x, loose);
+    default: return heron(x, steps, loose);
     }
 }
+
+static inline uint16_t exact(uint64_t loose) { return !(loose & (ONE - 1)); }
 
 /* The functions of valvepigeon.h. */
 vp_counted plain_count(const uint8_t *sheet, size_t length) {
@@ -250,8 +280,9 @@ vp_worked plain_evaluate(const uint8_t *sheet, size_t length, uint16_t number, i
     if (!r) return (vp_worked){VP_NO_SUCH_FORMULA, 0, 0, 0};
     if (argument < i32(r + 8) || argument > i32(r + 12)) return (vp_worked){VP_ARGUMENT_OUTSIDE, 0, 0, 0};
     uint16_t steps = 0;
-    int32_t word = answer(r, argument, &steps);
-    return (vp_worked){0, 0, word, steps};
+    uint64_t loose = 0;
+    int32_t word = answer(r, argument, &steps, &loose);
+    return (vp_worked){0, 0, word, steps, exact(loose)};
 }
 
 vp_shown plain_evaluate_double(const uint8_t *sheet, size_t length, uint16_t number, double argument) {
@@ -265,9 +296,11 @@ vp_shown plain_evaluate_double(const uint8_t *sheet, size_t length, uint16_t num
     if (e == 0x7ff) return (vp_shown){VP_NOT_FINITE, 0, 0, 0};
     if (e >= 1075 - PLACES) return (vp_shown){VP_ARGUMENT_OUTSIDE, 0, 0, 0};
     wide z = 0;
+    uint64_t loose = b << 1 != 0;
     if (e >= 1022 - PLACES) {
         wide m = (wide)((b & 0xfffffffffffffULL) | 1ULL << 52);
         unsigned cut = 1075 - PLACES - e;
+        loose = (m & ((1LL << cut) - 1)) != 0;
         z = (m + (1LL << (cut - 1))) >> cut;
         if (z > MOST) return (vp_shown){VP_ARGUMENT_OUTSIDE, 0, 0, 0};
         if (b >> 63) z = -z;
@@ -275,8 +308,8 @@ vp_shown plain_evaluate_double(const uint8_t *sheet, size_t length, uint16_t num
     int32_t x = (int32_t)z;
     if (x < i32(r + 8) || x > i32(r + 12)) return (vp_shown){VP_ARGUMENT_OUTSIDE, 0, 0, 0};
     uint16_t steps = 0;
-    int32_t word = answer(r, x, &steps);
-    return (vp_shown){0, 0, word / (double)ONE, steps};
+    int32_t word = answer(r, x, &steps, &loose);
+    return (vp_shown){0, 0, word / (double)ONE, steps, exact(loose)};
 }
 
 /* Of the angle's bits the highest is the sign, the next says whether the quarter is run through backwards. */
@@ -288,8 +321,9 @@ static vp_worked sine(const uint8_t *sheet, size_t length, uint16_t number, uint
     if (u16(r + 4) != VP_ODD || i32(r + 8) > 0 || i32(r + 12) < ONE) return (vp_worked){VP_NO_SINE, 0, 0, 0};
     uint32_t f = angle & (QUARTER - 1);
     if (angle & QUARTER) f = QUARTER - f;
-    int32_t y = odd(r, (int32_t)((f + 32) >> 6));
-    return (vp_worked){0, 0, angle >> 31 ? -y : y, 0};
+    uint64_t loose = (f & 63) != 0;
+    int32_t y = odd(r, (int32_t)((f + 32) >> 6), &loose);
+    return (vp_worked){0, 0, angle >> 31 ? -y : y, 0, exact(loose)};
 }
 
 vp_worked plain_sine(const uint8_t *sheet, size_t length, uint16_t number, uint32_t angle) {

@@ -19,8 +19,8 @@ ODD, PADDED = "odd, sheet of 1", "polynomial, odd padded"
 ALONE = {
     f"{kind}, sheet of 1" for kind in ("rational", "fraction", "root", "odd", "even")
 }
-# The call of a root, with its steps counted, which has a bound by gcc too.
-ROOT = "root, sheet of 1"
+# Calls that answer with a mark, which have a bound by gcc too.
+MARKED = ("rational", "fraction", "root", "odd", "even", "double", "sine", "cosine")
 
 
 def counted(folder, compiler):
@@ -47,11 +47,9 @@ def bound(what, compiler, name):
         return {"clang": 1.00, "gcc": 1.05}[compiler]
     if compiler == "clang" and name in ALONE:
         return 1.05
-    if name.startswith(("odd", "even", "sine", "cosine")):
+    if name.startswith(MARKED):
         return 1.10
-    if compiler == "clang" or name == ROOT:
-        return 1.15
-    return None
+    return 1.15 if compiler == "clang" else None
 
 
 def sine_above(odd, padded):

@@ -36,9 +36,13 @@ extern "C" {
    reads its word. But vp_shown grows from 24 bytes to 32, and is returned in memory that the caller lends: vp_evaluate_double
    would write beyond the struct of such a program. So the shared library is libvalvepigeon.so.2 now, which the loader never gives
    to a program that was linked with libvalvepigeon.so.1; an archive has no such name, and what is linked with it has to be compiled
-   with this header. */
-#define VP_VERSION 20001
-#define VP_VERSION_STRING "2.0.1"
+   with a header of 2.0.0 or later.
+
+   With 2.1.0 both have `exact`, in bytes behind `steps` that were padding. So their sizes and the places of the other fields stay,
+   and a program compiled with a header of 2.0.0 or later works as before, with the archive and with the shared library. The other
+   way round nothing is known of those bytes: a program that reads `exact` needs a library of 2.1.0 or later. */
+#define VP_VERSION 20100
+#define VP_VERSION_STRING "2.1.0"
 
 /* Sizes: the most bytes of a record, the bytes that a sheet adds to its run of records, and the most formulas of a sheet. */
 #define VP_LONGEST_RECORD 120
@@ -107,20 +111,24 @@ typedef struct {
     vp_fields fields;
 } vp_found;
 
-/* A formula's answer, a word; and how many steps Heron's rule took to it, where it is a root, as vp_evaluate says. */
+/* A formula's answer, a word; how many steps Heron's rule took to it, where it is a root; and 1 where it is exact, 0 where it was
+   rounded on the way, as vp_evaluate says. In a refusal all three are 0, and say nothing. */
 typedef struct {
     uint32_t refused;
     uint64_t place;
     int32_t word;
     uint16_t steps;
+    uint16_t exact;
 } vp_worked;
 
-/* A formula's answer as a double: exactly the answer word divided by 2^24; zero is plus zero. `steps` is as in vp_worked. */
+/* A formula's answer as a double: exactly the answer word divided by 2^24; zero is plus zero. `steps` and `exact` are as in
+   vp_worked. */
 typedef struct {
     uint32_t refused;
     uint64_t place;
     double value;
     uint16_t steps;
+    uint16_t exact;
 } vp_shown;
 
 /* A formula's interval as two doubles, low end and high end, each exactly its word divided by 2^24. */
@@ -149,11 +157,22 @@ vp_found vp_formula(const uint8_t *sheet, size_t length, uint16_t number);
    A root is worked by Heron's rule. With v the argument times 2^24 and b the number of v's binary digits, it begins with 2 to the
    power of b/2, that exponent rounded up; each step replaces the number w by the whole part of half of (w plus the whole part of
    v/w), until the new number is not below the old, which is then the root. `steps` is the number of these steps, the last one
-   included, and is at most 7. It is 0 for the argument 0, and for a formula of every other kind. */
+   included, and is at most 7. It is 0 for the argument 0, and for a formula of every other kind.
+
+   `exact` is 1 where no product and no quotient on the way was rounded, so that the word is exactly the formula's value; else it is
+   0, even where roundings cancel. Sums are never rounded. With s the product of the argument with itself, there count
+   - in a polynomial each product with the argument; with one coefficient there is none, and it is always exact;
+   - in a rational the products of both polynomials, and the quotient;
+   - in a fraction each product and each quotient, and s in mode 1, and in mode 2 from depth 2 on;
+   - in an even formula each product with s, and s itself from two coefficients on; in an odd one the last product, with the
+     argument, too.
+   There s counts whatever it is multiplied by, also by 0. A root is exact where its square is v. */
 vp_worked vp_evaluate(const uint8_t *sheet, size_t length, uint16_t number, int32_t argument);
 
 /* The same for a double. The argument's exact value times 2^24 is rounded as a product is, and `steps` are those at that word; where
-   the rounded value is no word or lies outside the interval, 10. Refusals 1 to 9, then 11, 13, 10. */
+   the rounded value is no word or lies outside the interval, 10. `exact` is 1 where the answer at that word is exact and the
+   argument's value times 2^24 was a whole number, as for -0.0; else 0, also where the answer does not use the argument. Refusals 1
+   to 9, then 11, 13, 10. */
 vp_shown vp_evaluate_double(const uint8_t *sheet, size_t length, uint16_t number, double argument);
 
 /* The sine of an angle, by the sheet's formula of that number, which has to be of the kind odd and to hold 0 to one in its
@@ -161,11 +180,12 @@ vp_shown vp_evaluate_double(const uint8_t *sheet, size_t length, uint16_t number
    first quarter of a turn it answers at the angle divided by 2^6, rounded as a product is, so that a quarter is one; in the second
    as at half a turn minus the angle; in the third and the fourth the answer is that at half a turn less, negated. So for every
    angle, exactly: half a turn more negates the sine, half a turn minus the angle keeps it, and the negated angle negates it.
-   `steps` is 0. Refusals 1 to 9, then 11, 15; no angle is refused. */
+   `steps` is 0. `exact` is 1 where the formula's answer is exact and the angle is a multiple of 64, so that its division was not
+   rounded; else 0. Refusals 1 to 9, then 11, 15; no angle is refused. */
 vp_worked vp_sine(const uint8_t *sheet, size_t length, uint16_t number, uint32_t angle);
 
 /* The cosine of an angle: the sine of the angle and a quarter more. So, exactly, the negated angle keeps it, and half a turn more
-   negates it. `steps` and refusals as above. */
+   negates it. `steps`, `exact` and refusals as above. */
 vp_worked vp_cosine(const uint8_t *sheet, size_t length, uint16_t number, uint32_t angle);
 
 /* The interval of the sheet's formula of that number. Refusals 1 to 9, then 11. */

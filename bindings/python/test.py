@@ -64,21 +64,23 @@ class Reading(Case):
         self.refuses(11, 0, vp.interval, SHEET, 2)
 
     def test_evaluate(self):
-        self.assertEqual(vp.evaluate(SHEET, 1, 2 * ONE), vp.Worked(23726566, 5))
+        self.assertEqual(vp.evaluate(SHEET, 1, 2 * ONE),
+                         vp.Worked(23726566, 5, False))
         self.refuses(10, 0, vp.evaluate, SHEET, 1, -1)
         self.refuses(10, 0, vp.evaluate, SHEET, 1, -2**31)
 
     def test_evaluate_double(self):
         for two in (2.0, 2):
             self.assertEqual(vp.evaluate_double(SHEET, 1, two),
-                             vp.Shown(23726566 / ONE, 5))
+                             vp.Shown(23726566 / ONE, 5, False))
         self.refuses(10, 0, vp.evaluate_double, SHEET, 1, 10**300)
         self.refuses(13, 0, vp.evaluate_double, SHEET, 1, float("nan"))
 
     def test_steps(self):
         """Arguments of a root, each with the numbers of Heron's rule, worked
         out by hand. The last is the root, and there are as many as steps; the
-        most are of 33554433 squared less one."""
+        most are of 33554433 squared less one. Only the root of a step is exact:
+        4096 squared is 2^24."""
         sheet = vp.write_sheet(vp.write_record(
             dataclasses.replace(ROOT, hi=2**31 - 1)))
         for argument, *numbers in (
@@ -87,17 +89,20 @@ class Reading(Case):
                 (4097, 524288, 327696, 268726, 262255, 262176, 262175),
                 (67108868, 67108864, 41943040, 34393293, 33564662, 33554434,
                  33554433, 33554432)):
+            root, steps = numbers[-1], len(numbers)
             self.assertEqual(vp.evaluate(sheet, 1, argument),
-                             vp.Worked(numbers[-1], len(numbers)))
+                             vp.Worked(root, steps, argument == 1))
             self.assertEqual(vp.evaluate_double(sheet, 1, argument / ONE),
-                             vp.Shown(numbers[-1] / ONE, len(numbers)))
-        self.assertEqual(vp.evaluate(sheet, 1, 0), vp.Worked(0, 0))
-        self.assertEqual(vp.evaluate_double(sheet, 1, 0), vp.Shown(0.0, 0))
+                             vp.Shown(root / ONE, steps, argument == 1))
+        self.assertEqual(vp.evaluate(sheet, 1, 0), vp.Worked(0, 0, True))
+        self.assertEqual(vp.evaluate_double(sheet, 1, 0),
+                         vp.Shown(0.0, 0, True))
 
-    def test_steps_left_out(self):
-        """They are 0, as in the answers of every other kind."""
-        self.assertEqual(vp.Worked(1), vp.Worked(1, 0))
-        self.assertEqual(vp.Shown(1.0), vp.Shown(1.0, 0))
+    def test_left_out(self):
+        """Steps are 0, as in the answers of every other kind; and nothing is
+        said to be exact."""
+        self.assertEqual(vp.Worked(1), vp.Worked(1, 0, False))
+        self.assertEqual(vp.Shown(1.0), vp.Shown(1.0, 0, False))
 
     def test_ties(self):
         """x itself, at halves of a step: they go away from zero."""
@@ -111,6 +116,97 @@ class Reading(Case):
             self.refuses(10, 0, vp.evaluate_double, sheet, 1, beyond)
 
 
+def sheet_of(kind, words, lo=-ONE, **counts):
+    """A sheet of one formula, with the number 1, up to one."""
+    counts = counts or {"p": len(words)}
+    return vp.write_sheet(vp.write_record(
+        vp.Fields(kind, 1, lo, ONE, words=words, **counts)))
+
+
+class Marks(Case):
+    """Answers that are exact and answers that are rounded, by hand. Words are
+    in steps, divisors and factors in ones. 4096 steps squared are 2^24, so s is
+    a step there; at 4097 it is 8193/2^24 more, and is rounded to a step."""
+
+    half = ONE // 2
+
+    def holds(self, sheet, *cases):
+        """The answers at words, and at the doubles that these are."""
+        for argument, word, exact in cases:
+            answer = vp.evaluate(sheet, 1, argument)
+            self.assertEqual(answer, vp.Worked(word, 0, exact))
+            self.assertIs(type(answer.exact), bool)
+            answer = vp.evaluate_double(sheet, 1, argument / ONE)
+            self.assertEqual(answer, vp.Shown(word / ONE, 0, exact))
+            self.assertIs(type(answer.exact), bool)
+
+    def test_polynomial(self):
+        # a step by 1; by 1/2; by 0; and a formula that multiplies nothing
+        self.holds(sheet_of(vp.POLYNOMIAL, (0, 1)), (ONE, 1, True),
+                   (self.half, 1, False), (-self.half, -1, False), (0, 0, True))
+        self.holds(sheet_of(vp.POLYNOMIAL, (9,)), (1, 9, True))
+        # only the first product is rounded: 1/2, so 1; then 1 + 1 by 1/2
+        self.holds(sheet_of(vp.POLYNOMIAL, (5, 1, 1)), (self.half, 6, False))
+
+    def test_rational(self):
+        half_of_it = sheet_of(vp.RATIONAL, (0, ONE, 2 * ONE), p=2, q=1)
+        self.holds(half_of_it, (2, 1, True), (3, 2, False), (-3, -2, False))
+        # 1 and half a step over the same: two roundings, which cancel
+        over_itself = sheet_of(vp.RATIONAL, (ONE, 1, ONE, 1), p=2, q=2)
+        self.holds(over_itself, (ONE, ONE, True), (self.half, ONE, False))
+
+    def test_fraction(self):
+        half_of_it = sheet_of(vp.FRACTION, (0, ONE, 2 * ONE), p=1)
+        self.holds(half_of_it, (2, 1, True), (3, 2, False))
+        square = sheet_of(vp.FRACTION, (0, ONE, ONE), p=1, mode=1)
+        self.holds(square, (4096, 1, True), (4097, 1, False))
+        # mode 2 does not use s in depth 1; in depth 2 it does, if only by 0
+        self.holds(sheet_of(vp.FRACTION, (0, ONE, ONE), p=1, mode=2),
+                   (4097, 4097, True))
+        self.holds(sheet_of(vp.FRACTION, (0, ONE, ONE, 0, ONE), p=2, mode=2),
+                   (4096, 4096, True), (4097, 4097, False))
+
+    def test_odd_and_even(self):
+        # with one coefficient s is not used; with two it is, if only by 0
+        self.holds(sheet_of(vp.ODD, (ONE,)), (4097, 4097, True))
+        self.holds(sheet_of(vp.EVEN, (9,)), (4097, 9, True))
+        self.holds(sheet_of(vp.ODD, (ONE, 0)), (4096, 4096, True),
+                   (4097, 4097, False))
+        self.holds(sheet_of(vp.EVEN, (9, 0)), (4096, 9, True),
+                   (4097, 9, False))
+        # s is 1/4; the last product is half a step
+        self.holds(sheet_of(vp.ODD, (1,)), (self.half, 1, False))
+
+    def test_door(self):
+        """A double that is no whole number of steps, of x and of 9 steps."""
+        for coefficients, at_one, at_nought in (((0, ONE), 1.0, 0.0),
+                                                ((9,), 9 / ONE, 9 / ONE)):
+            sheet = sheet_of(vp.POLYNOMIAL, coefficients)
+            for argument, value, exact in (
+                    (1.0, at_one, True), (1 - 2**-53, at_one, False),
+                    (-0.0, at_nought, True), (2**-26, at_nought, False),
+                    (5e-324, at_nought, False), (-5e-324, at_nought, False)):
+                self.assertEqual(vp.evaluate_double(sheet, 1, argument),
+                                 vp.Shown(value, 0, exact))
+
+    def test_angles(self):
+        """x itself: one step has 64 parts of a turn. It does not use s."""
+        sheet, quarter = sheet_of(vp.ODD, (ONE,), lo=0), 2**30
+        for angle, word, exact in (
+                (64, 1, True), (63, 1, False), (65, 1, False), (1, 0, False),
+                (64 * 4097, 4097, True),
+                # behind each quarter; before the whole turn
+                (quarter, ONE, True), (quarter + 1, ONE, False),
+                (quarter + 64, ONE - 1, True), (quarter + 65, ONE - 1, False),
+                (2 * quarter + 64, -1, True), (2 * quarter + 63, -1, False),
+                (3 * quarter, -ONE, True), (3 * quarter + 1, -ONE, False),
+                (2**32 - 64, -1, True), (2**32 - 1, 0, False)):
+            for answer in (vp.sine(sheet, 1, angle),
+                           vp.cosine(sheet, 1, (angle - quarter) % 2**32)):
+                self.assertEqual(answer, vp.Worked(word, 0, exact))
+                self.assertIs(type(answer.exact), bool)
+
+
 class Turning(Case):
     """x - x^3/6 at angles, and what is no sine."""
 
@@ -120,19 +216,21 @@ class Turning(Case):
 
     def test_sine(self):
         """At one it is 16777216 - 2796203, at a few steps its argument."""
-        for angle, word in ((0, 0), (self.quarter, 13981013),
-                            (2 * self.quarter, 0),
-                            (3 * self.quarter, -13981013),
-                            # an eighth: a tie, as in test_there_and_back
-                            (self.quarter // 2, 8039083),
-                            (2**32 - self.quarter // 2, -8039083),
-                            # ties at half a step and at one and a half
-                            (31, 0), (32, 1), (95, 1), (96, 2),
-                            (2 * self.quarter - 32, 1), (2**32 - 32, -1)):
-            self.assertEqual(vp.sine(self.sheet, 10, angle), vp.Worked(word, 0))
+        for angle, word, exact in (
+                (0, 0, True), (self.quarter, 13981013, True),
+                (2 * self.quarter, 0, True),
+                (3 * self.quarter, -13981013, True),
+                # an eighth: a tie, as in test_there_and_back
+                (self.quarter // 2, 8039083, False),
+                (2**32 - self.quarter // 2, -8039083, False),
+                # ties at half a step and at one and a half
+                (31, 0, False), (32, 1, False), (95, 1, False), (96, 2, False),
+                (2 * self.quarter - 32, 1, False), (2**32 - 32, -1, False)):
+            self.assertEqual(vp.sine(self.sheet, 10, angle),
+                             vp.Worked(word, 0, exact))
             self.assertEqual(
                 vp.cosine(self.sheet, 10, (angle - self.quarter) % 2**32),
-                vp.Worked(word, 0))
+                vp.Worked(word, 0, exact))
 
     def test_refused(self):
         for function in vp.sine, vp.cosine:
@@ -183,20 +281,21 @@ class Writing(Case):
         self.assertEqual(vp.count(sheet), 6)
         for formula in EVERY_KIND:
             self.assertEqual(vp.formula(sheet, formula.number), formula)
-        for number, argument, word in ((7, ONE // 2, 27262976),
-                                       (8, ONE, 45538158), (8, -ONE, 6181080),
-                                       (9, ONE // 2, 9151209),
-                                       # s is 1/4: 16777216 - 699051, halved,
-                                       # is a tie
-                                       (10, ONE // 2, 8039083),
-                                       (10, -ONE // 2, -8039083),
-                                       # -8388608 + 174763 by 4 is -2053461.25
-                                       (11, ONE // 2, 14723755),
-                                       (11, -ONE // 2, 14723755)):
+        for number, argument, word, exact in (
+                # 1/4 and 5/8
+                (7, ONE // 2, 27262976, True),
+                (8, ONE, 45538158, False), (8, -ONE, 6181080, False),
+                (8, 0, ONE, True), (9, ONE // 2, 9151209, False),
+                # s is 1/4: 16777216 - 699051, halved, is a tie
+                (10, ONE // 2, 8039083, False),
+                (10, -ONE // 2, -8039083, False),
+                # -8388608 + 174763 by 4 is -2053461.25
+                (11, ONE // 2, 14723755, False),
+                (11, -ONE // 2, 14723755, False)):
             self.assertEqual(vp.evaluate(sheet, number, argument),
-                             vp.Worked(word, 0))
+                             vp.Worked(word, 0, exact))
             self.assertEqual(vp.evaluate_double(sheet, number, argument / ONE),
-                             vp.Shown(word / ONE, 0))
+                             vp.Shown(word / ONE, 0, exact))
 
 
 class Sheets(Case):

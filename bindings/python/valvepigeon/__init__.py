@@ -10,7 +10,7 @@ divided by 2^24. Every function takes any bytes; it gives its answer or raises
     >>> valvepigeon.count(sheet)
     4
     >>> valvepigeon.evaluate(sheet, 161, 33554432)
-    Worked(word=23726566, steps=5)
+    Worked(word=23726566, steps=5, exact=False)
     >>> valvepigeon.evaluate_double(sheet, 161, 2.0).value
     1.4142135381698608
     >>> valvepigeon.interval(sheet, 161)
@@ -26,7 +26,21 @@ is the argument too, to 25165824, 23767722, 23726602 and 23726566; the fifth
 changes nothing, and so ends it. For the argument 0, for every other kind, and
 in sines and cosines `steps` is 0.
 
-An angle is a part of a turn, which has 2^32 of them; the sine of an eighth is
+An answer is `exact` where no product and no quotient on the way to it was
+rounded, and so is exactly the formula's value; a square of the argument that
+the rule of the formula never uses does not count. A root is exact where its
+square is the argument, both in ones.
+
+    >>> valvepigeon.evaluate_double(sheet, 161, 0.25)
+    Shown(value=0.5, steps=5, exact=True)
+    >>> valvepigeon.evaluate_double(sheet, 161, 0.25 + 2**-54).exact
+    False
+
+The second double is no whole number of steps of 2^-24. It is rounded to one,
+and no answer to it is exact.
+
+An angle is a part of a turn, which has 2^32 of them. If it is no multiple of 64
+it is rounded, and its sine is not exact. The sine of an eighth is
 
     >>> with open("sheets/sine-quarter.sheet", "rb") as file:
     ...     valvepigeon.sine(file.read(), 14, 2**32 // 8).word / 2**24
@@ -40,7 +54,8 @@ outside 0..65535, say) is an OverflowError; so add angles modulo 2^32.
 `pip install ./bindings/python` installs it. The shared library, which
 `./build-library` makes on x86-64 Linux, is looked for where the variable
 VALVEPIGEON_LIBRARY says, else beside this module, in the repository or release
-that it stands in, and where the system's loader looks.
+that it stands in, and where the system's loader looks. It has to be one of
+2.1.0 or later, of the same first number: an older one does not set `exact`.
 """
 
 from __future__ import annotations
@@ -107,19 +122,22 @@ class Fields:
 
 @dataclass(frozen=True)
 class Worked:
-    """A formula's answer, a word; and the steps of a root, or 0."""
+    """A formula's answer, a word; the steps of a root, or 0; and whether it is
+    exact, or else was rounded on the way."""
 
     word: int
     steps: int = 0
+    exact: bool = False
 
 
 @dataclass(frozen=True)
 class Shown:
     """A formula's answer as a double, exactly the answer word divided by 2^24;
-    and the steps of a root, or 0."""
+    its steps, and whether it is exact, as those of `Worked`."""
 
     value: float
     steps: int = 0
+    exact: bool = False
 
 
 @dataclass(frozen=True)
@@ -213,7 +231,7 @@ def _lent(function: str, content: ReadableBuffer, *arguments: Any) -> Any:
 def _worked(function: str, sheet: ReadableBuffer, *arguments: int) -> Worked:
     """The answer of a function that gives a word."""
     answer = _lent(function, sheet, *arguments)
-    return Worked(answer.word, answer.steps)
+    return Worked(answer.word, answer.steps, bool(answer.exact))
 
 
 # ---- the nine functions
@@ -237,15 +255,17 @@ def evaluate(sheet: ReadableBuffer, number: int, argument: int) -> Worked:
 
 def evaluate_double(sheet: ReadableBuffer, number: int,
                     argument: float) -> Shown:
-    """The answer at a double. Refusals 1 to 9, then 11, 13, 10."""
+    """The answer at a double, which is rounded to a word; if it had to be, the
+    answer is not exact. Refusals 1 to 9, then 11, 13, 10."""
     answer = _lent("vp_evaluate_double", sheet, _u16(number),
                    _double(argument))
-    return Shown(answer.value, answer.steps)
+    return Shown(answer.value, answer.steps, bool(answer.exact))
 
 
 def sine(sheet: ReadableBuffer, number: int, angle: int) -> Worked:
     """The sine of an angle, 0 to 2^32 - 1, by an odd formula whose interval
-    holds 0 to one, as those for sin(pi x/2). Refusals 1 to 9, then 11, 15."""
+    holds 0 to one, as those for sin(pi x/2). It is exact at multiples of 64
+    alone. Refusals 1 to 9, then 11, 15."""
     return _worked("vp_sine", sheet, _u16(number), _u32(angle))
 
 

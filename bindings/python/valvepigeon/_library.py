@@ -29,8 +29,10 @@ def _result(name: str, *values: tuple) -> type:
 
 _Counted = _result("_Counted", ("count", c_uint16))
 _Found = _result("_Found", ("fields", FieldsStruct))
-_Worked = _result("_Worked", ("word", c_int32), ("steps", c_uint16))
-_Shown = _result("_Shown", ("value", c_double), ("steps", c_uint16))
+_Worked = _result("_Worked", ("word", c_int32), ("steps", c_uint16),
+                  ("exact", c_uint16))
+_Shown = _result("_Shown", ("value", c_double), ("steps", c_uint16),
+                 ("exact", c_uint16))
 _Ends = _result("_Ends", ("low", c_double), ("high", c_double))
 _Written = _result("_Written", ("length", c_uint64))
 

@@ -53,10 +53,10 @@ pub fn with_mark(e: Evaluation, exact: bool) -> Evaluation
     ensures { λ r. ⌜ r ≡ withMark exact e ⌝ }
 {
     match e {
-        Evaluation::Answered(w) => Evaluation::Answered(Worked {
-            word: w.word,
-            steps: w.steps,
-            exact: exact & w.exact,
+        Evaluation::Answered(a) => Evaluation::Answered(Worked {
+            word: a.word,
+            steps: a.steps,
+            exact: exact & a.exact,
         }),
         Evaluation::Refused(r) => Evaluation::Refused(r),
     }

@@ -91,10 +91,6 @@ pub fn answer(b: &[u8], at: usize, shape: Shape, x: i32, s: u32) -> Worked
         Kind::Root => root_with_steps(x, s),
         Kind::Odd => without_steps(odd_even::odd(b, at, p, x, s), s),
         Kind::Even => without_steps(odd_even::even(b, at, p, x, s), s),
-        Kind::NoFormula => Worked {
-            word: 0,
-            steps: 0,
-            exact: true,
-        },
+        Kind::NoFormula => without_steps(Marked { word: 0, loose: 0 }, s),
     }
 }

@@ -49,8 +49,8 @@ at-the-square s c (d ∷ cs) q y f =
     let k = length cs in
     apart (c *ℤ pos (u ^ suc k)) (q *ℤ exact s (d ∷ cs) q) (u ^ suc k)
     ∙ ap₂ _+ℤ_
-        (first-term c (u ^ suc k) ∙ ap (λ (w : ℕ). c *ℤ pos w) (doubled s (suc k)))
-        (ap (λ (w : ℕ). q *ℤ exact s (d ∷ cs) q *ℤ pos w) (pow-suc u k) ∙ other-terms q (exact s (d ∷ cs) q) y u (u ^ k) f ∙ ap (λ (z : ℤ). y *ℤ z) (at-the-square s d cs q y f))
+    (first-term c (u ^ suc k) ∙ ap (λ (w : ℕ). c *ℤ pos w) (doubled s (suc k)))
+    (ap (λ (w : ℕ). q *ℤ exact s (d ∷ cs) q *ℤ pos w) (pow-suc u k) ∙ other-terms q (exact s (d ∷ cs) q) y u (u ^ k) f ∙ ap (λ (z : ℤ). y *ℤ z) (at-the-square s d cs q y f))
 
 -- ---- the answers. Of one coefficient the square is not asked for
 even-value : (s : ℕ) (c : ℤ) (cs : List ℤ) (x : ℤ) → evenExact s (c ∷ cs) x ≡ true → evenOf s (c ∷ cs) x *ℤ pos (unit (s + s) ^ length cs) ≡ exact (s + s) (c ∷ cs) (x *ℤ x)

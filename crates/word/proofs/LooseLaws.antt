@@ -1,10 +1,10 @@
--- How `loose` tells a mark. Of two numbers joined by `or` the last digits are 0 exactly where both numbers' are; and twice a number, with the divisor
+-- How `loose` tells a mark. Of two numbers joined by `or` the last digits are 0 exactly where both numbers' are; a number's lower word has its last 32; and twice a number, with the divisor
 -- added to it, leaves that by twice the divisor exactly where the divisor divides the number.
-use Rattle.whole.proofs.Basics.{_≡_, _∙_, refl, sym, ap, ap₂, Bool, true, false, ℕ, suc, _+_, _*_, _/_, _%_, _^_, _<_, arith, eqb, ℤ, pos, negsuc, negℤ, natAbs, _+ℤ_, eqb-true, eqb-false, eq-eqb, ne-eqb}
+use Rattle.whole.proofs.Basics.{_≡_, _∙_, refl, sym, ap, ap₂, Bool, true, false, ℕ, suc, _+_, _-_, _*_, _/_, _%_, _^_, _≤_, _<_, arith, eqb, ℤ, pos, negsuc, negℤ, natAbs, _+ℤ_, eqb-true, eqb-false, eq-eqb, ne-eqb}
 use mathlib.Core.Bool.{_&&_}
 use native.Mathlib.Nat.{div-add-mod, mul-mod-right, add-mul-mod-self-left, mod-eq-of-lt, zero-mod}
-use lib.Bits.{bitOr, or-mod, or-add-and, and-le-l, and-le-r}
-use lib.Pow.{pow-lt}
+use lib.Bits.{bitAnd, bitOr, or-mod, or-add-and, and-le-l, and-le-r, and-mask}
+use lib.Pow.{pow-lt, mod-mod-pow}
 use lib.Signed.{remZ}
 use Rattle.whole.proofs.Diff.{v, n, _⊕_, ⊖_, same}
 use Rattle.word.specs.Words.{NotZero, belowZero, withSign}
@@ -22,6 +22,12 @@ or-zero a b = by (eqb a 0) (eqb b 0) refl refl
 
 pub or-whole : (s a b : ℕ) → wholeAt s (bitOr a b) ≡ (wholeAt s a && wholeAt s b)
 or-whole s a b = ap (λ (k : ℕ). eqb k 0) (or-mod a b s) ∙ or-zero (a % 2 ^ s) (b % 2 ^ s)
+
+-- ---- in the lower word of a number
+pub whole-lower : (s n : ℕ) → s ≤ 32 → wholeAt s (bitAnd n 0xffffffff) ≡ wholeAt s n
+whole-lower s n h =
+    let e : 32 ≡ (32 - s) + s = omega arith in
+    ap (wholeAt s) (and-mask n 32 ∙ ap (λ (k : ℕ). n % 2 ^ k) e) ∙ ap (λ (k : ℕ). eqb k 0) (mod-mod-pow n (32 - s) s)
 
 -- ---- nothing is loose, or something is
 pub whole-none : (s : ℕ) → wholeAt s 0 ≡ true

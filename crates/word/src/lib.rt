@@ -88,14 +88,15 @@ pub fn rounded_shift(n: i64, cut: u32) -> Rounding
     Rounding { value, loose }
 }
 
-// What a product's rounding drops are the last digits of its size.
+// What a product's rounding drops are the last digits of its size, at most 28, and so all in its lower word.
 pub fn product(a: i32, b: i32, s: u32) -> Rounding
     requires { ⌜ Factors s a b ⌝ }
     ensures value { λ r. ⌜ r .value ≡ productOf s a b ⌝ }
     ensures mark { λ r. ⌜ wholeAt s (r .loose) ≡ exactProduct s a b ⌝ }
 {
-    let loose = multiply::long_times(magnitude(a), magnitude(b));
-    let value = rounded_with_sign((a < 0) != (b < 0), loose, s);
+    let n = multiply::long_times(magnitude(a), magnitude(b));
+    let value = rounded_with_sign((a < 0) != (b < 0), n, s);
+    let loose = n & 0xffff_ffff;
     Rounding { value, loose }
 }
 

@@ -1,6 +1,7 @@
 -- `formula::answer` meets its contract: each kind's own answer, over as many words as the kind has.
 use Rattle.whole.proofs.Basics.{_≡_, _∙_, refl, sym, ap, ap₂, subst, Bool, List, ℕ, _+_, _*_, _<_, arith, take, drop, ℤ, w32, needs}
 use Rattle.whole.proofs.Held.{back, held, arg}
+use Rattle.word.proofs.LooseLaws.{whole-none}
 use Rattle.root.specs.Root.{Rootable}
 use Rattle.stored.specs.Words.{words, Stretch}
 use Rattle.stored.proofs.WordsLaws.{words-all, words-take, words-drop}
@@ -149,8 +150,8 @@ returns-3 c =
     let x = back w32 (d .args .x) in
     c .without-steps3 .ensures
     ∙ stepless
-        (a .answer3 .ensures .0 ∙ ap (λ (k : List ℤ). answerBy Fraction (d .args .s) (first d) (second d) (d .args .shape .mode) k x) l)
-        (a .answer3 .ensures .1 ∙ ap (λ (k : List ℤ). exactBy Fraction (d .args .s) (first d) (second d) (d .args .shape .mode) k x) l)
+    (a .answer3 .ensures .0 ∙ ap (λ (k : List ℤ). answerBy Fraction (d .args .s) (first d) (second d) (d .args .shape .mode) k x) l)
+    (a .answer3 .ensures .1 ∙ ap (λ (k : List ℤ). exactBy Fraction (d .args .s) (first d) (second d) (d .args .shape .mode) k x) l)
     ∙ whole d Fraction e
 
 returns-4 : tie.Need-returns-4
@@ -183,7 +184,10 @@ returns-6 c =
     ∙ whole d Even e
 
 returns-7 : tie.Need-returns-7
-returns-7 c = whole (c .before .before .before .before) NoFormula (c .enum-told7 .given .1)
+returns-7 c =
+    let b = c .before in
+    let d = b .before .before .before .before in
+    c .without-steps6 .ensures ∙ stepless refl (whole-none (d .args .s)) ∙ whole d NoFormula (b .enum-told7 .given .1)
 
 pub answer-spec : {M : Type 1} → statement M
 answer-spec =
@@ -210,6 +214,7 @@ answer-spec =
     even-requires
     (λ c κs. short (c .before .before .before .before .before))
     (λ c. search needs)
+    (λ c κs. short (c .before .before .before .before))
     returns
     returns-2
     returns-3

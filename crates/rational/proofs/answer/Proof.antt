@@ -82,8 +82,8 @@ module _ (c : tie.After-quotient) where
   mark =
       or-whole (S start) loose (c .quotient .result .loose)
       ∙ ap₂ _&&_
-          (or-whole (S start) (two .before .answer .result .loose) (two .answer2 .result .loose) ∙ ap₂ _&&_ (top-mark (two .before)) (bottom-mark two))
-          (c .quotient .ensures .1 ∙ ap₂ (exactQuotient (S start)) (held (top-held (two .before))) (held (bottom-held two)))
+      (or-whole (S start) (two .before .answer .result .loose) (two .answer2 .result .loose) ∙ ap₂ _&&_ (top-mark (two .before)) (bottom-mark two))
+      (c .quotient .ensures .1 ∙ ap₂ (exactQuotient (S start)) (held (top-held (two .before))) (held (bottom-held two)))
 
 answer-requires : tie.Need-answer-requires
 answer-requires c κs =

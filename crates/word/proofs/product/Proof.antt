@@ -7,6 +7,7 @@ use Rattle.whole.proofs.Order.{abs-mul}
 use Rattle.word.specs.Rounded.{rounded}
 use Rattle.word.specs.Words.{withSign}
 use Rattle.word.specs.Exact.{wholeAt}
+use Rattle.word.proofs.LooseLaws.{whole-lower}
 use Rattle.word.proofs.SignLaws.{below-read, differ, sign-times}
 use Rattle.word.proofs.product.Statement.{statement}
 use Rattle.word.proofs.product.Tie as tie
@@ -40,7 +41,7 @@ returns c =
       held (given {w = w64} {x = c .rounded-with-sign .result} (c .rounded-with-sign .ok))
           ∙ c .rounded-with-sign .ensures
           ∙ ap (λ (z : ℤ). rounded z (2 ^ start d .args .s)) (ap₂ (λ (t : Bool) (k : ℕ). withSign t (pos k)) (sign-is d) (n-is d) ∙ sign-times (a d) (b d)),
-      ap (wholeAt (start d .args .s)) (n-is d ∙ sym (abs-mul (a d) (b d))),
+      whole-lower (start d .args .s) (d .long-times .result) (omega (arith, start d .pre .0 .most)) ∙ ap (wholeAt (start d .args .s)) (n-is d ∙ sym (abs-mul (a d) (b d))),
     )
 
 pub product-spec : {M : Type 1} → statement M
