@@ -5,9 +5,11 @@
 
 static int arguments_understood(const question *q) {
     int32_t word;
+    int exact;
     if (q->count == FIRST_ARGUMENT && q->options & STEPS) return missing(q, "an ARGUMENT for --steps");
+    if (q->count == FIRST_ARGUMENT && q->options & EXACT) return missing(q, "an ARGUMENT for --exact");
     for (int i = FIRST_ARGUMENT; i < q->count; i++)
-        if (!word_from(q->words[i], &word))
+        if (!word_from(q->words[i], &word, &exact))
             return wrong(q, q->words[i], "is no argument: write a decimal as 0.5 or a word as 8388608w");
     return 1;
 }
@@ -58,11 +60,11 @@ static void show_fields(const question *q, const vp_fields *f) {
 }
 
 static int answer_all(const question *q, const sheet_file *sheet) {
-    int status = 0;
+    int status = 0, exact;
     for (int i = FIRST_ARGUMENT; i < q->count; i++) {
         int32_t argument;
-        word_from(q->words[i], &argument);
-        status |= answered(q, q->words[i], vp_evaluate(sheet->bytes, sheet->length, q->number, argument));
+        word_from(q->words[i], &argument, &exact);
+        status |= answered(q, q->words[i], exact, vp_evaluate(sheet->bytes, sheet->length, q->number, argument));
     }
     return status;
 }
@@ -70,7 +72,7 @@ static int answer_all(const question *q, const sheet_file *sheet) {
 int ask(int count, char **words) {
     static sheet_file sheet;
     question q;
-    if (!understood(&q, "ask", WORDS | STEPS, count, words) || !arguments_understood(&q)) return 2;
+    if (!understood(&q, "ask", WORDS | STEPS | EXACT, count, words) || !arguments_understood(&q)) return 2;
     read_sheet(&sheet, q.words[0]);
     if (sheet.reading != READ) return unread(&q, &sheet);
     vp_found found = vp_formula(sheet.bytes, sheet.length, q.number);

@@ -12,9 +12,11 @@ static uint64_t whole_part(const typed *number) {
     return whole;
 }
 
-/* The nearest whole number of steps, without the sign; so a tie goes up. */
-static uint64_t steps(typed *number) {
-    return (multiples(whole_part(number), number->places, BINARY_PLACES + 1) + 1) / 2;
+/* The nearest whole number of steps, without the sign; so a tie goes up. It is exact where they are so many themselves. */
+static uint64_t steps(typed *number, int *exact) {
+    uint64_t halves = multiples(whole_part(number), number->places, BINARY_PLACES + 1);
+    *exact = halves % 2 == 0 && no_places(number);
+    return (halves + 1) / 2;
 }
 
 static int32_t word_of(uint64_t count, int negative) {
@@ -22,13 +24,14 @@ static int32_t word_of(uint64_t count, int negative) {
     return negative ? -(int32_t)count : (int32_t)count;
 }
 
-int word_from(const char *text, int32_t *word) {
+int word_from(const char *text, int32_t *word, int *exact) {
     typed number;
     const char *end = typed_from(text, &number);
     if (!end) return 0;
     int in_steps = !number.has_point && strcmp(end, "w") == 0;
     if (*end && !in_steps) return 0;
-    *word = word_of(in_steps ? whole_part(&number) : steps(&number), number.negative);
+    *exact = 1;
+    *word = word_of(in_steps ? whole_part(&number) : steps(&number, exact), number.negative);
     return 1;
 }
 

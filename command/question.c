@@ -25,12 +25,13 @@ static int number_from(const char *text, uint16_t *number) {
 /* The option of that name, or 0. */
 static int option_from(const char *text) {
     if (strcmp(text, "--words") == 0) return WORDS;
-    return strcmp(text, "--steps") == 0 ? STEPS : 0;
+    if (strcmp(text, "--steps") == 0) return STEPS;
+    return strcmp(text, "--exact") == 0 ? EXACT : 0;
 }
 
 static int no_option(const question *q, const char *text, int has) {
-    return wrong(q, text, has & STEPS ? "is no option of it; there are --words and --steps"
-                                      : "is no option of it; there is --words");
+    return wrong(q, text, has & STEPS ? "is no option of it; there are --words, --steps and --exact"
+                                      : "is no option of it; there are --words and --exact");
 }
 
 int understood(question *q, const char *verb, int has, int count, char **words) {
@@ -69,10 +70,11 @@ int refused(const question *q, const char *argument, uint32_t number, uint64_t p
     return 1;
 }
 
-int answered(const question *q, const char *argument, vp_worked answer) {
+int answered(const question *q, const char *argument, int exactly, vp_worked answer) {
     if (answer.refused) return refused(q, argument, answer.refused, answer.place);
     show(q, answer.word);
     if (q->options & STEPS) printf(" %u", answer.steps);
+    if (q->options & EXACT) printf(" %s", exactly && answer.exact ? "exact" : "rounded");
     putchar('\n');
     return 0;
 }

@@ -4,8 +4,9 @@
 #include <stdint.h>
 #include "sheet_file.h"
 
-/* The options, as bits: --words, for answers as words; --steps, for the number of steps behind each. */
-enum { WORDS = 1, STEPS = 2 };
+/* The options, as bits: --words, for answers as words; --steps, for the number of steps behind each; --exact, for whether each is
+   exact or rounded. */
+enum { WORDS = 1, STEPS = 2, EXACT = 4 };
 
 /* A call's words, its options apart. */
 typedef struct {
@@ -33,6 +34,7 @@ void show(const question *q, int32_t word);
 int unread(const question *q, const sheet_file *sheet);
 int refused(const question *q, const char *argument, uint32_t number, uint64_t place);
 
-/* Prints the answer's line, or tells the refusal; gives the status. */
-int answered(const question *q, const char *argument, vp_worked answer);
+/* Prints the answer's line, or tells the refusal; gives the status. An answer is exact only if what it answers to was exactly what
+   was typed. */
+int answered(const question *q, const char *argument, int exactly, vp_worked answer);
 #endif

@@ -15,6 +15,7 @@ const char *typed_from(const char *text, typed *number) {
     if (number->has_point) text++;
     size_t count = number->has_point ? digits(text) : 0;
     for (size_t i = 0; i < count && i < DECIMAL_PLACES; i++) number->places[i] = (unsigned char)(text[i] - '0');
+    for (size_t i = DECIMAL_PLACES; i < count; i++) number->has_more |= text[i] != '0';
     return number->whole_count + count > 0 ? text + count : NULL;
 }
 
@@ -32,4 +33,10 @@ static uint64_t doubled(unsigned char places[DECIMAL_PLACES]) {
 uint64_t multiples(uint64_t whole, unsigned char places[DECIMAL_PLACES], int n) {
     for (int i = 0; i < n; i++) whole = 2 * whole + doubled(places);
     return whole;
+}
+
+int no_places(const typed *number) {
+    int some = number->has_more;
+    for (int i = 0; i < DECIMAL_PLACES; i++) some |= number->places[i];
+    return !some;
 }

@@ -1,6 +1,6 @@
 #!/usr/bin/env bash
-# The README's commands print what it shows: the listed sheet, the formula that is asked, the sines, the steps of roots, and from a
-# typed formula to its answers, which are the paper's. What it and the other pages link to, and the folders that it names, are there;
+# The README's commands print what it shows: the listed sheet, the formula that is asked, the sines, the steps of roots, the marks, and from
+# a typed formula to its answers, which are the paper's. What it and the other pages link to, and the folders that it names, are there;
 # and CHANGELOG.md tells of the version.
 set -u
 cd "$(dirname "$0")/.." || exit 2
@@ -19,6 +19,7 @@ page_shows README.md "$(./valvepigeon list sheets/tangent.sheet)"
 shows './valvepigeon ask sheets/tangent.sheet 54 0.5 -0.25 8388608w'
 shows './valvepigeon sine sheets/sine-quarter.sheet 14 30deg 0.125t 0x40000000'
 shows './valvepigeon ask sheets/square-root.sheet 162 2 0 67108868w --steps'
+shows './valvepigeon ask sheets/square-root.sheet 162 2 2.25 0 --exact'
 shows './examples/run' './valvepigeon list target/desk.sheet'
 ln -s "$root/sheets" "$root/valvepigeon" "$room"
 cd "$room" || exit 2

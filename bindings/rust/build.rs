@@ -1,6 +1,6 @@
 //! Finds `libvalvepigeon.a` and has it linked. It is looked for where the variable VALVEPIGEON_LIBRARY_DIR says, else in the
-//! repository or the release that this package stands in, else where pkg-config says, if the version there has the same first
-//! number: that moves when the structs do, and an archive's name does not show it.
+//! repository or the release that this package stands in, else where pkg-config says, if the version there fits: an archive's name
+//! does not show it.
 
 use std::path::{Path, PathBuf};
 use std::process::{exit, Command};
@@ -8,6 +8,7 @@ use std::process::{exit, Command};
 const VARIABLE: &str = "VALVEPIGEON_LIBRARY_DIR";
 const ARCHIVE: &str = "libvalvepigeon.a";
 const FIRST_NUMBER: &str = env!("CARGO_PKG_VERSION_MAJOR");
+const SECOND_NUMBER: &str = env!("CARGO_PKG_VERSION_MINOR");
 
 /// What pkg-config says of the library.
 fn pkg_config(what: &str) -> Option<String> {
@@ -16,11 +17,19 @@ fn pkg_config(what: &str) -> Option<String> {
     said.status.success().then(|| text.trim().to_string())
 }
 
+/// Whether a library of that version has what this package reads: its first number is the same, which moves when the structs do, and
+/// its second not below, which moves when something is added, as a field where there was padding.
+fn fits(version: &str) -> bool {
+    let number = |text: &str| text.parse::<u32>().ok();
+    let mut numbers = version.split('.');
+    numbers.next() == Some(FIRST_NUMBER) && numbers.next().and_then(number) >= number(SECOND_NUMBER)
+}
+
 /// The folder above that of the file valvepigeon.pc, in whose name pkg-config puts a backslash before a blank.
 fn by_pkg_config() -> Option<PathBuf> {
     let version = pkg_config("--modversion")?;
     let folder = pkg_config("--variable=pcfiledir")?.replace('\\', "");
-    (version.split('.').next() == Some(FIRST_NUMBER)).then(|| Path::new(&folder).join(".."))
+    fits(&version).then(|| Path::new(&folder).join(".."))
 }
 
 /// The folders to look in, the first first. What the variable says is not passed over.
@@ -45,8 +54,8 @@ fn main() {
     }
     let Some(folder) = folders().into_iter().find(|folder| folder.join(ARCHIVE).is_file()) else {
         stop(&format!(
-            "{ARCHIVE} of version {FIRST_NUMBER} is not found: run ./build-library in the repository, or set {VARIABLE} to the \
-             folder that holds it"
+            "{ARCHIVE} of version {FIRST_NUMBER}.{SECOND_NUMBER} is not found: run ./build-library in the repository, or set \
+             {VARIABLE} to the folder that holds it"
         ))
     };
     println!("cargo:rerun-if-changed={}", folder.join(ARCHIVE).display());

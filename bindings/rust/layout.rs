@@ -17,8 +17,8 @@ fn main() {
     layout!("vp_fields", Fields: kind number lo hi p q mode words);
     layout!("vp_counted", Counted: refused place count);
     layout!("vp_found", Found: refused place fields);
-    layout!("vp_worked", Worked: refused place word steps);
-    layout!("vp_shown", Shown: refused place value steps);
+    layout!("vp_worked", Worked: refused place word steps exact);
+    layout!("vp_shown", Shown: refused place value steps exact);
     layout!("vp_ends", Ends: refused place low high);
     layout!("vp_written", Written: refused place length);
 }

@@ -54,8 +54,8 @@ outside 0..65535, say) is an OverflowError; so add angles modulo 2^32.
 `pip install ./bindings/python` installs it. The shared library, which
 `./build-library` makes on x86-64 Linux, is looked for where the variable
 VALVEPIGEON_LIBRARY says, else beside this module, in the repository or release
-that it stands in, and where the system's loader looks. It has to be one of
-2.1.0 or later, of the same first number: an older one does not set `exact`.
+that it stands in, and where the system's loader looks. It has to be of a
+version from 2.1.0 on with that first number: an older one does not set `exact`.
 """
 
 from __future__ import annotations

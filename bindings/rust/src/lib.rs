@@ -14,7 +14,9 @@
 //! write_sheet(&record[..length], &mut sheet)?;
 //! let two = evaluate(&sheet, 1, 33554432)?;
 //! // By Heron's rule: 2^25 (by chance the argument too), 25165824, 23767722, 23726602, 23726566, and the fifth step changes nothing.
-//! assert_eq!((two.word, two.steps), (23726566, 5));
+//! assert_eq!((two.word, two.steps, two.exact), (23726566, 5, false));
+//! // 8388608 squared is 4194304 times 2^24.
+//! assert!(evaluate(&sheet, 1, 4194304)?.exact);
 //! assert_eq!(evaluate_double(&sheet, 1, 2.0)?.value, 1.41421353816986083984375);
 //! assert_eq!(evaluate_double(&sheet, 1, 2.5).unwrap_err().number, valvepigeon::ARGUMENT_OUTSIDE);
 //! # Ok(())
@@ -23,7 +25,8 @@
 //!
 //! The library is for x86-64 Linux. `./build-library` makes it in the repository, where a package that names this one by its
 //! path finds it: `valvepigeon = { path = ".../bindings/rust" }`. Elsewhere the variable `VALVEPIGEON_LIBRARY_DIR` names the
-//! folder of `libvalvepigeon.a`, or pkg-config knows it, by a version with the same first number.
+//! folder of `libvalvepigeon.a`, or pkg-config knows it, by a version from 2.1 on with that first number: an older library does
+//! not set `exact`.
 
 #![warn(missing_docs)]
 
@@ -116,6 +119,10 @@ pub struct Worked {
     /// How many steps Heron's rule took to a root, the last one included: at most 7. It is 0 for the argument 0, for every other
     /// kind, and in sines and cosines.
     pub steps: u16,
+    /// Whether no product and no quotient on the way was rounded, so that the word is exactly the formula's value; of a root,
+    /// whether its square is the argument, both in ones. A square of the argument that the formula's rule does not use does not
+    /// count. A sine or cosine is exact only where the angle is a multiple of 64, since any other is rounded.
+    pub exact: bool,
 }
 
 /// A formula's answer as a double.
@@ -126,6 +133,9 @@ pub struct Shown {
     pub value: f64,
     /// How many steps Heron's rule took to a root, as [`Worked::steps`] says.
     pub steps: u16,
+    /// As [`Worked::exact`] says, but only where the argument is a whole number of steps of 2^-24, since any other is rounded; that
+    /// holds too where the answer does not use it.
+    pub exact: bool,
 }
 
 /// A formula's interval, each end exactly its word divided by 2^24.
@@ -147,7 +157,7 @@ fn answer<T>(refused: u32, place: u64, value: T) -> Result<T, Refusal> {
 }
 
 fn worked(r: raw::Worked) -> Result<Worked, Refusal> {
-    answer(r.refused, r.place, Worked { word: r.word, steps: r.steps })
+    answer(r.refused, r.place, Worked { word: r.word, steps: r.steps, exact: r.exact != 0 })
 }
 
 // In each call below a slice lends its own pointer and length, and no function keeps a pointer, or reads or writes outside
@@ -173,7 +183,7 @@ pub fn evaluate(sheet: &[u8], number: u16, argument: i32) -> Result<Worked, Refu
 /// What the formula of that number answers at a double. Refusals 1 to 9, then 11, 13, 10.
 pub fn evaluate_double(sheet: &[u8], number: u16, argument: f64) -> Result<Shown, Refusal> {
     let r = unsafe { raw::vp_evaluate_double(sheet.as_ptr(), sheet.len(), number, argument) };
-    answer(r.refused, r.place, Shown { value: r.value, steps: r.steps })
+    answer(r.refused, r.place, Shown { value: r.value, steps: r.steps, exact: r.exact != 0 })
 }
 
 /// The sine of an angle by the formula of that number, an odd one whose interval holds 0 to one, as those for sin(pi x/2). An

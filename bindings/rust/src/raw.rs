@@ -44,6 +44,7 @@ pub struct Worked {
     pub place: u64,
     pub word: i32,
     pub steps: u16,
+    pub exact: u16,
 }
 
 #[repr(C)]
@@ -52,6 +53,7 @@ pub struct Shown {
     pub place: u64,
     pub value: f64,
     pub steps: u16,
+    pub exact: u16,
 }
 
 #[repr(C)]

@@ -1,5 +1,5 @@
 //! Calls each function of the binding, on the paper's own sheet, on roots of every number of steps, at ties, on an odd and an even
-//! formula, and at angles.
+//! formula, at angles, and where answers are exact and where they are rounded.
 
 use valvepigeon::*;
 
@@ -34,11 +34,11 @@ fn finds() {
 #[test]
 fn evaluates() {
     let two = evaluate(&SHEET, 1, 33554432).unwrap();
-    assert_eq!((two.word, two.steps), (23726566, 5));
+    assert_eq!((two.word, two.steps, two.exact), (23726566, 5, false));
     assert_eq!(evaluate(&SHEET, 1, -1), refused(10, 0));
     assert_eq!(evaluate(&SHEET, 1, i32::MIN), refused(10, 0));
     let two = evaluate_double(&SHEET, 1, 2.0).unwrap();
-    assert_eq!((two.value, two.steps), (23726566.0 / 16777216.0, 5));
+    assert_eq!((two.value, two.steps, two.exact), (23726566.0 / 16777216.0, 5, false));
     assert_eq!(evaluate_double(&SHEET, 1, f64::NAN), refused(13, 0));
 }
 
@@ -84,7 +84,7 @@ fn sheet_of(formula: &Fields) -> Vec<u8> {
 fn counts_the_steps_of_a_root() {
     let sheet = sheet_of(&Fields { hi: i32::MAX, ..root() });
     // arguments with the numbers of Heron's rule, worked out by hand: the last is the root, and there are as many as steps; the
-    // most are of 33554433 squared less one
+    // most are of 33554433 squared less one; the roots of 0 and of a step are exact, for 4096 squared is 2^24
     let walks: [(i32, &[i32]); 7] = [
         (0, &[]),
         (16777215, &[16777216, 16777215]),
@@ -95,11 +95,11 @@ fn counts_the_steps_of_a_root() {
         (67108868, &[67108864, 41943040, 34393293, 33564662, 33554434, 33554433, 33554432]),
     ];
     for (argument, numbers) in walks {
-        let (last, steps) = (numbers.last().copied().unwrap_or(0), numbers.len() as u16);
+        let (last, steps, exact) = (numbers.last().copied().unwrap_or(0), numbers.len() as u16, argument < 2);
         let word = evaluate(&sheet, 1, argument).unwrap();
-        assert_eq!((word.word, word.steps), (last, steps));
+        assert_eq!((word.word, word.steps, word.exact), (last, steps, exact));
         let double = evaluate_double(&sheet, 1, f64::from(argument) / f64::from(ONE)).unwrap();
-        assert_eq!((double.value, double.steps), (f64::from(last) / f64::from(ONE), steps));
+        assert_eq!((double.value, double.steps, double.exact), (f64::from(last) / f64::from(ONE), steps, exact));
     }
 }
 
@@ -126,11 +126,12 @@ fn odd_and_even() {
     let mut sheet = vec![0; length + SHEET_ADDS];
     write_sheet(&run[..length], &mut sheet).unwrap();
     assert_eq!((formula(&sheet, 1), formula(&sheet, 2)), (Ok(odd), Ok(even)));
-    // x - x^3/6, where the last product is a tie, and 1 - x^2/2 + x^4/24
+    // x - x^3/6, where the last product is a tie, and 1 - x^2/2 + x^4/24, where -2053461.25 is rounded
     for (number, argument, word) in [(1, ONE / 2, 8039083), (1, -ONE / 2, -8039083), (2, ONE / 2, 14723755), (2, -ONE / 2, 14723755)] {
         let answer = evaluate(&sheet, number, argument).unwrap();
-        assert_eq!((answer.word, answer.steps), (word, 0));
-        assert_eq!(evaluate_double(&sheet, number, f64::from(argument) / f64::from(ONE)).unwrap().steps, 0);
+        assert_eq!((answer.word, answer.steps, answer.exact), (word, 0, false));
+        let answer = evaluate_double(&sheet, number, f64::from(argument) / f64::from(ONE)).unwrap();
+        assert_eq!((answer.steps, answer.exact), (0, false));
     }
     // 12 times 12 is no word
     for kind in [ODD, EVEN] {
@@ -147,19 +148,87 @@ fn sines_and_cosines() {
     write_sheet(&run[..length], &mut sheet).unwrap();
     // x - x^3/6 at nought, at one (16777216 - 2796203), at one half, and at ties of the angle
     let quarter = 1u32 << 30;
-    for (angle, word) in [
-        (0, 0), (quarter, 13981013), (2 * quarter, 0), (3 * quarter, -13981013),
-        (quarter / 2, 8039083), (5 * (quarter / 2), -8039083),
-        (31, 0), (32, 1), (96, 2), (32u32.wrapping_neg(), -1),
+    for (angle, word, exact) in [
+        (0, 0, true), (quarter, 13981013, true), (2 * quarter, 0, true), (3 * quarter, -13981013, true),
+        (quarter / 2, 8039083, false), (5 * (quarter / 2), -8039083, false),
+        (31, 0, false), (32, 1, false), (96, 2, false), (32u32.wrapping_neg(), -1, false),
     ] {
         for answer in [sine(&sheet, 1, angle).unwrap(), cosine(&sheet, 1, angle.wrapping_sub(quarter)).unwrap()] {
-            assert_eq!((answer.word, answer.steps), (word, 0));
+            assert_eq!((answer.word, answer.steps, answer.exact), (word, 0, exact));
         }
     }
     for function in [sine, cosine] {
         assert_eq!(function(&sheet, 2, 0), refused(NO_SINE, 0));
         assert_eq!(function(&sheet, 3, 0), refused(11, 0));
         assert_eq!(function(&SHEET[..31], 1, 0), refused(1, 24));
+    }
+}
+
+/// The answers of a formula with the number 1, at words and at the doubles that these are, with their marks.
+fn marks(formula: &Fields, cases: &[(i32, i32, bool)]) {
+    let sheet = sheet_of(formula);
+    for &(argument, word, exact) in cases {
+        let answer = evaluate(&sheet, 1, argument).unwrap();
+        assert_eq!((answer.word, answer.exact), (word, exact));
+        let answer = evaluate_double(&sheet, 1, f64::from(argument) / f64::from(ONE)).unwrap();
+        assert_eq!((answer.value, answer.exact), (f64::from(word) / f64::from(ONE), exact));
+    }
+}
+
+#[test]
+fn exact_or_rounded() {
+    let half = ONE / 2;
+    // a step by 1, 1/2 and 0; and a formula that multiplies nothing
+    marks(&series(POLYNOMIAL, 1, &[0, 1]), &[(ONE, 1, true), (half, 1, false), (-half, -1, false), (0, 0, true)]);
+    marks(&series(POLYNOMIAL, 1, &[9]), &[(1, 9, true)]);
+    // only the first product is rounded: half a step, so a step; then 1 + 1 by 1/2
+    marks(&series(POLYNOMIAL, 1, &[5, 1, 1]), &[(half, 6, false)]);
+    // x over 2; and one and half a step over the same, two roundings that cancel
+    marks(&Fields { p: 2, q: 1, ..series(RATIONAL, 1, &[0, ONE, 2 * ONE]) }, &[(2, 1, true), (3, 2, false), (-3, -2, false)]);
+    marks(&Fields { p: 2, q: 2, ..series(RATIONAL, 1, &[ONE, 1, ONE, 1]) }, &[(ONE, ONE, true), (half, ONE, false)]);
+    marks(&Fields { p: 1, ..series(FRACTION, 1, &[0, ONE, 2 * ONE]) }, &[(2, 1, true), (3, 2, false)]);
+    // 4096 steps squared are 2^24, so s is a step; at 4097 it is 8193/2^24 more, and is rounded to a step
+    marks(&Fields { p: 1, mode: 1, ..series(FRACTION, 1, &[0, ONE, ONE]) }, &[(4096, 1, true), (4097, 1, false)]);
+    // mode 2 does not use s in depth 1, nor do odd and even formulas of one coefficient; else they do, if only by 0
+    marks(&Fields { p: 1, mode: 2, ..series(FRACTION, 1, &[0, ONE, ONE]) }, &[(4097, 4097, true)]);
+    marks(&series(ODD, 1, &[ONE]), &[(4097, 4097, true)]);
+    marks(&series(EVEN, 1, &[9]), &[(4097, 9, true)]);
+    marks(&Fields { p: 2, mode: 2, ..series(FRACTION, 1, &[0, ONE, ONE, 0, ONE]) }, &[(4096, 4096, true), (4097, 4097, false)]);
+    marks(&series(ODD, 1, &[ONE, 0]), &[(4096, 4096, true), (4097, 4097, false)]);
+    marks(&series(EVEN, 1, &[9, 0]), &[(4096, 9, true), (4097, 9, false)]);
+    // s is 1/4; the last product is half a step
+    marks(&series(ODD, 1, &[1]), &[(half, 1, false)]);
+}
+
+#[test]
+fn rounded_at_the_door() {
+    let step = 1.0 / f64::from(ONE);
+    // x, and nine steps, which do not use it
+    for (coefficients, at_one, at_nought) in [(&[0, ONE][..], 1.0, 0.0), (&[9][..], 9.0 * step, 9.0 * step)] {
+        let sheet = sheet_of(&series(POLYNOMIAL, 1, coefficients));
+        for (argument, value, exact) in [
+            (1.0, at_one, true), (1.0 - f64::EPSILON / 2.0, at_one, false),
+            (-0.0, at_nought, true), (0.25 * step, at_nought, false), (f64::from_bits(1), at_nought, false),
+        ] {
+            let answer = evaluate_double(&sheet, 1, argument).unwrap();
+            assert_eq!((answer.value, answer.exact), (value, exact));
+        }
+    }
+}
+
+#[test]
+fn rounded_angles() {
+    // x itself, which does not use s: one step has 64 parts of a turn
+    let (sheet, quarter) = (sheet_of(&series(ODD, 1, &[ONE])), 1u32 << 30);
+    for (angle, word, exact) in [
+        (64, 1, true), (63, 1, false), (65, 1, false), (1, 0, false), (64 * 4097, 4097, true),
+        (quarter, ONE, true), (quarter + 1, ONE, false), (quarter + 64, ONE - 1, true), (quarter + 65, ONE - 1, false),
+        (2 * quarter + 64, -1, true), (2 * quarter + 63, -1, false), (3 * quarter, -ONE, true), (3 * quarter + 1, -ONE, false),
+        (64u32.wrapping_neg(), -1, true), (u32::MAX, 0, false),
+    ] {
+        for answer in [sine(&sheet, 1, angle).unwrap(), cosine(&sheet, 1, angle.wrapping_sub(quarter)).unwrap()] {
+            assert_eq!((answer.word, answer.exact), (word, exact));
+        }
     }
 }
 
