@@ -8,12 +8,13 @@ enum { DEGREES = 360, TURNS = 1 };     /* how many are a turn */
 
 /* The parts of so many degrees or turns. Whole turns are left out first. Then half parts, of which a turn has 2^33, are counted
    and rounded down, and the nearest part follows from these, a tie going up in size. The division by `turn` may come after the
-   multiples are rounded down, since rounding down twice is rounding down once. */
+   multiples are rounded down, since rounding down twice is rounding down once. It is exact where nothing is left over, and the half
+   parts are two for each part. */
 static uint32_t parts(typed *number, uint64_t turn, int *exact) {
     uint64_t whole = 0;
     for (size_t i = 0; i < number->whole_count; i++) whole = (10 * whole + (uint64_t)(number->whole[i] - '0')) % turn;
-    uint64_t turned = multiples(whole, number->places, 33), half_parts = turned / turn;
-    *exact = turned % (2 * turn) == 0 && no_places(number);
+    uint64_t all = multiples(whole, number->places, 33), half_parts = all / turn;
+    *exact = all % (2 * turn) == 0 && no_places(number);
     uint32_t size = (uint32_t)((half_parts + 1) / 2);
     return number->negative ? 0 - size : size;
 }

@@ -12,7 +12,7 @@ static uint64_t whole_part(const typed *number) {
     return whole;
 }
 
-/* The nearest whole number of steps, without the sign; so a tie goes up. It is exact where they are so many themselves. */
+/* The nearest whole number of steps, without the sign; so a tie goes up. */
 static uint64_t steps(typed *number, int *exact) {
     uint64_t halves = multiples(whole_part(number), number->places, BINARY_PLACES + 1);
     *exact = halves % 2 == 0 && no_places(number);

@@ -34,7 +34,7 @@ void show(const question *q, int32_t word);
 int unread(const question *q, const sheet_file *sheet);
 int refused(const question *q, const char *argument, uint32_t number, uint64_t place);
 
-/* Prints the answer's line, or tells the refusal; gives the status. An answer is exact only if what it answers to was exactly what
-   was typed. */
+/* Prints the answer's line, or tells the refusal; gives the status. Where what was typed was not taken exactly, the answer to it is
+   rounded too. */
 int answered(const question *q, const char *argument, int exactly, vp_worked answer);
 #endif

@@ -3,9 +3,10 @@
     python3 tests/angles.py FOLDER
 
 writes 'texts', an angle a line, and 'taken', the part of a turn that each is,
-or 'none'; and for each case of `sine` and `cosine` NAME.args, a word of the
-call a line, and NAME.out. Angles are taken by exact fractions here; sines and
-cosines are the second program's.
+and whether exactly, or 'none'; and for each case of `sine` and `cosine`
+NAME.args, a word of the call a line, and NAME.out. Angles are taken by exact
+fractions here; sines and cosines are the second program's, but rounded too
+where an angle had to be.
 """
 
 import sys
@@ -14,7 +15,7 @@ from math import floor
 from pathlib import Path
 from random import Random
 
-from asked import ROOT, shown
+from asked import EXACT, ROOT, WORDS, mark, shown
 from formulas import ODD, Formula
 from makers import sheet_of
 from number import ONE
@@ -42,7 +43,11 @@ TYPED = [
     "0.125t", "-1.25t", ".5t", "-.25t", "1.t", "360deg", "-360deg", "720.5deg",
     "359.99999999deg", "359.9999999999deg", "-359.9999999999deg",
     "0.9999999999999t", "1t", "-1t", "00000.25t", "9" * 50 + ".75t",
-    "-" + "9" * 50 + ".125deg"]
+    "-" + "9" * 50 + ".125deg", "0.0000000149011611938476562500t"] + [
+    # whole numbers of 64 parts, and more in a place far behind
+    sign + text + "0" * zeros + "1" + unit
+    for text, unit in (("0.125", "t"), ("45.0", "deg"), ("0.0", "t"))
+    for sign in ("", "-") for zeros in (12, 29, 30, 31, 32, 60)]
 
 
 def fraction_of(text):
@@ -56,6 +61,11 @@ def taken(text):
     turns = fraction_of(text)
     size = floor(abs(turns) * TURN + Fraction(1, 2))
     return (-size if turns < 0 else size) % TURN
+
+
+def exactly(text):
+    """Whether a text is a whole number of parts."""
+    return text in WHOLE or (fraction_of(text) * TURN).denominator == 1
 
 
 def decimal(value, places):
@@ -96,14 +106,23 @@ def any_digits(draw):
 
 
 def cases(folder, angles):
-    """Function, sheet, number, angles, and whether answers are words."""
+    """Function, sheet, number, angles and options."""
     itself = folder / "it self.sheet"  # x, which shows its argument
     itself.write_bytes(sheet_of([Formula(ODD, 1, 0, ONE, 1, 0, 0, (ONE,))]))
     ready = ROOT / "sheets" / "sine-quarter.sheet"
     for function in sine, cosine:
-        for number in 11, 12, 13, 14:
-            yield function, ready, number, angles[:FEW], number % 2 == 0
-        yield function, itself, 1, angles, True
+        for number, options in ((11, []), (12, [WORDS]), (13, [EXACT]),
+                                (14, [EXACT, WORDS])):
+            yield function, ready, number, angles[:FEW], options
+        yield function, itself, 1, angles, [WORDS, EXACT]
+
+
+def answered(function, content, number, text, part, options):
+    answer = function(content, number, part)
+    line = shown(answer.word, WORDS in options)
+    if EXACT in options:
+        line += " " + mark(answer.exact and exactly(text))
+    return line
 
 
 def put(path, lines):
@@ -116,14 +135,16 @@ def main():
     turns = TYPED + list(ties(draw)) + list(any_digits(draw))
     parts = dict(WHOLE, **{text: taken(text) for text in turns})
     put(folder / "texts", [*parts, *NO_ANGLES])
-    put(folder / "taken", [*parts.values(), *["none"] * len(NO_ANGLES)])
-    for function, sheet, number, asked, as_words in cases(folder, list(parts)):
+    put(folder / "taken",
+        [f"{part} {mark(exactly(text))}" for text, part in parts.items()]
+        + ["none"] * len(NO_ANGLES))
+    for function, sheet, number, asked, options in cases(folder, list(parts)):
         content = sheet.read_bytes()
         verb = function.__name__
         put(folder / f"{verb}-{number}.args",
-            [verb, sheet, number, *asked] + ["--words"] * as_words)
+            [verb, sheet, number, *asked, *options])
         put(folder / f"{verb}-{number}.out",
-            [shown(function(content, number, parts[text]).word, as_words)
+            [answered(function, content, number, text, parts[text], options)
              for text in asked])
 
 

@@ -4,11 +4,13 @@
 
 writes for each case NAME.args, a word of the call a line, and NAME.out. The
 answers are the second program's; a decimal is rounded, and a word is shown as
-a decimal, by exact fractions here.
+a decimal, by exact fractions here. The answer to a decimal that had to be
+rounded is rounded too, whatever the second program says of the word.
 """
 
 import sys
 from fractions import Fraction
+from itertools import product
 from math import floor
 from pathlib import Path
 
@@ -16,15 +18,17 @@ ROOT = Path(__file__).resolve().parent.parent
 sys.path.append(str(ROOT / "oracle"))
 
 from evaluation import evaluate
-from formulas import FRACTION, POLYNOMIALS, RATIONAL
-from listings import NAMES, ODD_AND_EVEN, polynomial, root, sheet
+from formulas import EVEN, FRACTION, ODD, POLYNOMIALS, RATIONAL
+from listings import (
+    NAMES, ODD_AND_EVEN, fraction, polynomial, rational, root, sheet)
 from number import M, ONE
 from refusal import Refused
 from sheet import formula_of, read
 
 HALF_STEP = Fraction(1, 2 * ONE)
-WORDS, STEPS = "--words", "--steps"
-EVERY_WAY = (), (WORDS,), (STEPS,), (WORDS, STEPS)
+OPTIONS = WORDS, STEPS, EXACT = "--words", "--steps", "--exact"
+EVERY_WAY = [[option for option, given in zip(OPTIONS, way) if given]
+             for way in product((False, True), repeat=len(OPTIONS))]
 
 
 def decimal(value):
@@ -46,13 +50,26 @@ def word_of(text):
     return -size if value < 0 else size
 
 
+def exactly(text):
+    """Whether a text is a whole number of steps."""
+    return text.endswith("w") or (Fraction(text) * ONE).denominator == 1
+
+
+def mark(exact):
+    return "exact" if exact else "rounded"
+
+
 def answered(content, number, text, options):
     try:
         answer = evaluate(content, number, word_of(text))
     except Refused as refusal:
         return str(refusal)
     line = shown(answer.word, WORDS in options)
-    return f"{line} {answer.steps}" if STEPS in options else line
+    if STEPS in options:
+        line += f" {answer.steps}"
+    if EXACT in options:
+        line += " " + mark(answer.exact and exactly(text))
+    return line
 
 
 def fields(formula, as_words):
@@ -93,12 +110,36 @@ TYPED = [
     sign + decimal(multiple * HALF_STEP) + tail
     for multiple in (1, 3, 2 * ONE + 1, 2 * M - 1, 2 * M + 1)
     for sign in ("", "-") for tail in ("", "0", "0" * 40 + "1")
+] + [
+    # whole numbers of steps, and more in a place far behind
+    sign + text + tail
+    for text in ("0.0", "0.5", "7.000000059604644775390625")
+    for sign in ("", "-")
+    for tail in ["", *("0" * zeros + "1" for zeros in (0, 8, 31, 32, 60))]
 ] + ["0.0000000298023223876953124999999", "-0.0000000298023223876953124999999"]
 
 # A root of every word that has one, and words that lie beside powers of two,
 # where the most and the fewest steps are taken, the 7 of 67108868 among them.
 ROOTS = sheet(root(1, 0, M))
 ROOTED = [f"{2 ** power + i}w" for power in range(31) for i in range(-8, 9)]
+
+# Formulas of each kind, with and without a use of the argument's square, and
+# arguments of which some leave nothing to round, and some are rounded.
+MARKED = sheet(
+    polynomial(1, -ONE, ONE, 0, 1), polynomial(2, -ONE, ONE, 9),
+    rational(3, -ONE, ONE, [0, ONE], [2 * ONE]),
+    rational(4, -ONE, ONE, [ONE, 1], [ONE, 1]),
+    fraction(5, -ONE, ONE, 0, 0, ONE, 2 * ONE),
+    fraction(6, -ONE, ONE, 1, 0, ONE, ONE),
+    fraction(7, -ONE, ONE, 2, 0, ONE, ONE),
+    fraction(8, -ONE, ONE, 2, 0, ONE, ONE, 0, ONE),
+    polynomial(9, -ONE, ONE, ONE, kind=ODD),
+    polynomial(10, -ONE, ONE, ONE, 0, kind=ODD),
+    polynomial(11, -ONE, ONE, 9, kind=EVEN),
+    polynomial(12, -ONE, ONE, 9, 0, kind=EVEN),
+    root(13, 0, ONE))
+ARGUMENTS = ["0", "1", "-1", "0.5", "-.5", "0.25", "0.1", "-0.1"] + [
+    f"{n}w" for n in (1, 2, 3, 4, 4096, 4097, -1, -2, -3, -4096, -4097)]
 
 
 def about(f, path):
@@ -113,18 +154,22 @@ def about(f, path):
               decimal(Fraction(f.hi, ONE) + HALF_STEP)]
     for options in EVERY_WAY:
         yield str(f.number), path, f.number, asked, options
-    for options in (), (WORDS,):
+    for options in [], [WORDS]:
         yield f"{f.number}-fields", path, f.number, [], options
 
 
 def cases(folder):
     """Name, sheet, number, arguments and options of each."""
     itself, roots = folder / "it self.sheet", folder / "roots.sheet"
+    marked = folder / "marked.sheet"
     itself.write_bytes(ITSELF)
     roots.write_bytes(ROOTS)
+    marked.write_bytes(MARKED)
     for options in EVERY_WAY:
         yield "typed", itself, 1, TYPED, options
         yield "rooted", roots, 1, ROOTED, options
+    for f in read(MARKED):
+        yield f"marked-{f.number}", marked, f.number, ARGUMENTS, [EXACT]
     ready = ROOT / "sheets" / "all.sheet"
     seen = set()
     for f in read(ready.read_bytes()):
@@ -143,6 +188,8 @@ def main():
         content = path.read_bytes()
         if asked:
             lines = [answered(content, number, a, options) for a in asked]
+            told = {line.split()[-1] for line in lines}
+            assert not name.startswith("marked") or {"exact", "rounded"} <= told
         else:
             lines = fields(formula_of(content, number), WORDS in options)
         words = [str(path), str(number), *asked, *options]

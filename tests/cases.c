@@ -1,6 +1,6 @@
-/* Puts the paper's hand-checked rows that are not proved, rows of a root's steps and of angles, and every vector of a file
-   (oracle/README.md has its layout) to the library through its C interface, and compares the answers. For each group it prints how
-   many agree; a disagreement is printed with its vector. The exit status is 0 only if all agree and no group is empty. */
+/* Puts the paper's hand-checked rows that are not proved, rows of a root's steps, of marks and of angles, and every vector of a
+   file (oracle/README.md has its layout) to the library through its C interface, and compares the answers. For each group it prints
+   how many agree; a disagreement is printed with its vector. The exit status is 0 only if all agree and no group is empty. */
 #include <stdint.h>
 #include <stdio.h>
 #include <stdlib.h>
@@ -119,11 +119,13 @@ static void answer_board(int group, const uint8_t *q, size_t n) {
         put_head(r.refused, r.place);
         put((uint32_t)r.word, 4);
         put(r.steps, 2);
+        put(r.exact, 2);
     } else {
         vp_shown r = vp_evaluate_double(q + 10, n - 10, (uint16_t)get(q, 2), get_double(q + 2));
         put_head(r.refused, r.place);
         put_double(r.value);
         put(r.steps, 2);
+        put(r.exact, 2);
     }
 }
 
@@ -133,6 +135,7 @@ static void answer_angle(int group, const uint8_t *q, size_t n) {
     put_head(r.refused, r.place);
     put((uint32_t)r.word, 4);
     put(r.steps, 2);
+    put(r.exact, 2);
 }
 
 static void answer_writer(int group, const uint8_t *q, size_t n) {
@@ -177,7 +180,7 @@ static void compare(int group, unsigned long number, int question, const uint8_t
     hex("got     ", got, got_length);
 }
 
-/* ---- the rows, as vectors in hexadecimal: the paper's, then those of a root's steps and of angles */
+/* ---- the rows, as vectors in hexadecimal: the paper's, then those of a root's steps, of marks and of angles */
 static uint8_t row_question[256], row_answer[256];
 
 static size_t from_hex(uint8_t *to, const char *text) {
@@ -210,8 +213,11 @@ static size_t from_hex(uint8_t *to, const char *text) {
 #define AT_HALF_NEGATED "555585ff"
 #define EVEN START "18000000 1500 0100 00000000 00000001 00000001 5555d5ff " END
 #define ACCEPTED "00 00000000 "
-#define STEPS(n) " 0" #n "00"
-#define NO_SINE "0f 00000000 00000000" STEPS(0)
+/* what stands behind a word or a double: the steps and the mark; in a refusal neither */
+#define EXACT(n) " 0" #n "00 0100"
+#define ROUNDED(n) " 0" #n "00 0000"
+#define NEITHER " 0000 0000"
+#define NO_SINE "0f 00000000 00000000" NEITHER
 #define FOUR_ZEROS "00000000 00000000 00000000 00000000 "
 #define ZEROS_24 FOUR_ZEROS FOUR_ZEROS FOUR_ZEROS FOUR_ZEROS FOUR_ZEROS FOUR_ZEROS
 #define ZEROS_32 ZEROS_24 FOUR_ZEROS FOUR_ZEROS
@@ -219,13 +225,13 @@ static size_t from_hex(uint8_t *to, const char *text) {
 
 static const struct { int question; const char *asked, *answered; } rows[] = {
     {COUNT, START CUBIC END, "07 08000000 0000"},
-    {EVALUATE, "0100 00000000 " START CUBIC END, "07 08000000 00000000" STEPS(0)},
+    {EVALUATE, "0100 00000000 " START CUBIC END, "07 08000000 00000000" NEITHER},
     {RECORD, "1100 0100 000000ff 00000001 0400 0400 0000 " CUBIC_WORDS ZEROS_24 "0000", "07 00000000 00000000"},
     {SHEET, "0000 " CUBIC, "07 08000000 00000000"},
     {COUNT, "", "01 00000000 0000"},
     {FORMULA, "0100", "01 00000000 " NO_FIELDS},
-    {EVALUATE, "0100 00000000", "01 00000000 00000000" STEPS(0)},
-    {DOUBLE, "0100 0000000000000000", "01 00000000 0000000000000000" STEPS(0)},
+    {EVALUATE, "0100 00000000", "01 00000000 00000000" NEITHER},
+    {DOUBLE, "0100 0000000000000000", "01 00000000 0000000000000000" NEITHER},
     {INTERVAL, "0100", "01 00000000 0000000000000000 0000000000000000"},
     {COUNT, START ROOT END, ACCEPTED "0100"},
     {FORMULA, "0100 " START ROOT END, ACCEPTED "1300 0100 00000000 00000002 0000 0000 0000 " ZEROS_32},
@@ -248,10 +254,10 @@ static const struct { int question; const char *asked, *answered; } rows[] = {
     {DOUBLE, "0100 0000000000000040 " EVERY_ROOT, ACCEPTED "000000609ea0f63f" STEPS(5)},
     {DOUBLE, "0100 0000000000000080 " EVERY_ROOT, ACCEPTED "0000000000000000" STEPS(0)},    /* -0.0 */
     /* refused by 10, 13 and 11; and a formula of another kind */
-    {EVALUATE, "0100 ffffffff " EVERY_ROOT, "0a 00000000 00000000" STEPS(0)},
-    {DOUBLE, "0100 000000000000f0bf " EVERY_ROOT, "0a 00000000 0000000000000000" STEPS(0)},
-    {DOUBLE, "0100 000000000000f87f " EVERY_ROOT, "0d 00000000 0000000000000000" STEPS(0)},
-    {EVALUATE, "0200 01000000 " EVERY_ROOT, "0b 00000000 00000000" STEPS(0)},
+    {EVALUATE, "0100 ffffffff " EVERY_ROOT, "0a 00000000 00000000" NEITHER},
+    {DOUBLE, "0100 000000000000f0bf " EVERY_ROOT, "0a 00000000 0000000000000000" NEITHER},
+    {DOUBLE, "0100 000000000000f87f " EVERY_ROOT, "0d 00000000 0000000000000000" NEITHER},
+    {EVALUATE, "0200 01000000 " EVERY_ROOT, "0b 00000000 00000000" NEITHER},
     {EVALUATE, "0100 00008000 " ODD, ACCEPTED AT_HALF STEPS(0)},
     {DOUBLE, "0100 000000000000e03f " ODD, ACCEPTED "000000c0aaaade3f" STEPS(0)},
     {SINE, "0100 00000000 " ODD, ACCEPTED "00000000" STEPS(0)},
@@ -278,11 +284,11 @@ static const struct { int question; const char *asked, *answered; } rows[] = {
     {COSINE, "0100 000000e0 " ODD, ACCEPTED AT_HALF STEPS(0)},
     {SINE, "0100 00000000 " ODD_FROM("01000000 ", "00000001 "), NO_SINE},
     {SINE, "0100 00000000 " ODD_FROM("00000000 ", "ffffff00 "), NO_SINE},
-    {SINE, "0100 00000080 " ODD_FROM("00000080 ", "00000001 "), "06 08000000 00000000" STEPS(0)},
+    {SINE, "0100 00000080 " ODD_FROM("00000080 ", "00000001 "), "06 08000000 00000000" NEITHER},
     {SINE, "0100 00000000 " EVEN, NO_SINE},
     {COSINE, "0100 00000000 " START ROOT END, NO_SINE},
-    {SINE, "0200 00000000 " EVEN, "0b 00000000 00000000" STEPS(0)},
-    {COSINE, "0100 00000000 " EVEN "00", "09 28000000 00000000" STEPS(0)},
+    {SINE, "0200 00000000 " EVEN, "0b 00000000 00000000" NEITHER},
+    {COSINE, "0100 00000000 " EVEN "00", "09 28000000 00000000" NEITHER},
 };
 
 static void by_hand(void) {

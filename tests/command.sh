@@ -109,7 +109,9 @@ gives 1 '' 'absent: unreadable: No such file' ask absent 1 0
 gives 1 '' 'deeper: unreadable: Is a directory' ask deeper 1 0
 for bad in 1e3 1,5 0x10 nan inf '' - . w 1ww '1 ' --; do gives 2 '' 'ask' ask good.sheet 1 0 "$bad"; done
 for bad in 65536 -1 one 1.0 '' 100000; do gives 2 '' 'number' ask good.sheet "$bad" 0; done
-for bad in --loud --step --stepss --; do gives 2 '' "ask: '$bad' is no option of it; there are --words and --steps" ask good.sheet 1 0 "$bad"; done
+for bad in --loud --step --stepss --exac --exactly --; do
+    gives 2 '' "ask: '$bad' is no option of it; there are --words, --steps and --exact" ask good.sheet 1 0 "$bad"
+done
 gives 2 '' "$see ask" ask good.sheet
 # Heron's rule by hand: 33554432, 25165824, 23767722, 23726602, 23726566 to the root of 2; 8192, 5120, 4198, 4097, 4096 to that of a step
 gives 0 $'1.41421353816986083984375 5\n0 0\n' '' ask good.sheet 1 2 0 --steps
@@ -119,6 +121,16 @@ gives 1 $'refused 11 at 0\n' 'refused 11 at 0' ask good.sheet 2 0 --steps
 is "a script's answer and steps" "$("$command" ask good.sheet 1 2 --steps | { read -r answer steps && echo "$steps steps to $answer"; })" \
     '5 steps to 1.41421353816986083984375'
 gives 2 '' "an ARGUMENT for --steps is missing; $see ask" ask good.sheet 1 --steps
+# 4096 squared is 2^24, and 8388608 squared 4194304 times 2^24; no square of a whole number is twice another
+gives 0 $'1.41421353816986083984375 rounded\n0 exact\n1 exact\n0.5 exact\n' '' ask good.sheet 1 2 0 1 0.25 --exact
+gives 0 $'23726566 5 rounded\n4096 5 exact\n' '' ask --exact good.sheet --words 1 33554432w 1w --steps
+gives 1 $'0 exact\nrefused 10 at 0\n1 exact\n' 'at -0.5: refused 10 at 0' ask good.sheet 1 --exact 0 -0.5 1
+gives 1 $'refused 11 at 0\n' 'refused 11 at 0' ask good.sheet 2 0 --exact
+# a decimal that is rounded has no exact answer: half a step is taken as one, a quarter and a little more as a quarter
+gives 0 $'4096 rounded\n8388608 rounded\n8388608 exact\n' '' \
+    ask good.sheet 1 "0.$half" 0.2500000000000000000000000000000000000001 0.2500000000000000000000000000000000000000 --words --exact
+gives 2 '' "an ARGUMENT for --exact is missing; $see ask" ask good.sheet 1 --exact
+gives 2 '' "an ARGUMENT for --steps is missing; $see ask" ask good.sheet 1 --exact --steps
 
 # ---- sine and cosine, by x - x^3/6 on -1 to 1: at one it is 16777216 - 2796203, at 0, 1 and 2 steps its argument
 printf '\10\0\0\0\1\0\1\0\30\0\0\0\24\0\5\0\0\0\0\377\0\0\0\1\0\0\0\1\125\125\325\377\10\0\0\0\377\377\1\0' >odd.sheet
@@ -128,6 +140,20 @@ gives 0 $'13981013\n13981013\n-13981013\n-13981013\n0\n' '' sine odd.sheet 5 --w
 gives 0 $'0\n1\n1\n2\n-1\n-1\n' '' sine odd.sheet 5 --words 31 32 95 96 0xffffffe0 0x80000020    # 32 and 96 are ties
 gives 0 $'0.833333313465118408203125\n-0.833333313465118408203125\n' '' cosine - 5 360deg 0.5t <odd.sheet
 gives 0 $'0.833333313465118408203125 0\n' '' ask odd.sheet 5 1 --steps
+# at one nothing is rounded; at one half the last product is 8039082.5, and at a step its square is 2^-24
+gives 0 $'0.833333313465118408203125 exact\n0.479166686534881591796875 rounded\n' '' ask odd.sheet 5 1 0.5 --exact
+gives 0 $'0 exact\n13981013 exact\n-13981013 exact\n8039083 rounded\n1 rounded\n0 rounded\n' '' \
+    sine odd.sheet 5 0 90deg 0xC0000000 0.125t 64 31 --words --exact
+gives 0 $'0.833333313465118408203125 exact\n0.833333313465118408203125 rounded\n' '' cosine --exact odd.sheet 5 0 1
+# x itself, of which a step has 64 parts of a turn; a twelfth of a turn has 357913941.3 parts, and is taken as 5592405.3 steps
+printf '\10\0\0\0\1\0\1\0\24\0\0\0\24\0\5\0\0\0\0\377\0\0\0\1\0\0\0\1\10\0\0\0\377\377\1\0' >itself.sheet
+gives 0 $'1 exact\n1 rounded\n1 rounded\n16777215 exact\n16777215 rounded\n-1 exact\n' '' \
+    sine itself.sheet 5 64 63 65 0x40000040 0x40000041 0xffffffc0 --words --exact
+gives 0 $'0.5 exact\n0.5 exact\n0.5 rounded\n0.5 rounded\n-0.25 exact\n' '' \
+    sine itself.sheet 5 45deg 0.125t 0.1250000000000000000000000000000000000001t 45.00000000001deg -22.5deg --exact
+gives 0 $'5592405 rounded\n' '' sine itself.sheet 5 30deg --words --exact
+gives 0 $'1 exact\n1 rounded\n0 exact\n' '' cosine itself.sheet 5 --exact 0 1 90deg
+gives 1 $'refused 15 at 0\n' 'refused 15 at 0: ' sine good.sheet 1 0 --exact
 gives 1 $'refused 15 at 0\n' 'good.sheet, formula 1: refused 15 at 0: the formula is not of the kind odd' sine good.sheet 1 0 1 2
 gives 1 $'refused 15 at 0\n' 'refused 15 at 0: ' cosine good.sheet 1 0
 gives 1 $'refused 11 at 0\n' 'refused 11 at 0: no formula has that number' sine odd.sheet 4 0 1
@@ -137,9 +163,10 @@ gives 1 '' 'absent: unreadable: No such file' cosine absent 1 0
 gives 2 '' "is no angle: write degrees as 30deg" sine odd.sheet 5 0 30d
 gives 2 '' "cosine: '1.5' is no angle" cosine odd.sheet 5 0 1.5
 for bad in 65536 -1 one ''; do gives 2 '' 'number' sine odd.sheet "$bad" 0; done
-gives 2 '' "cosine: '--loud' is no option of it; there is --words" cosine odd.sheet 5 0 --loud
-gives 2 '' "sine: '--steps' is no option of it; there is --words" sine odd.sheet 5 0 --steps
+gives 2 '' "cosine: '--loud' is no option of it; there are --words and --exact" cosine odd.sheet 5 0 --loud
+gives 2 '' "sine: '--steps' is no option of it; there are --words and --exact" sine odd.sheet 5 0 --steps
 gives 2 '' "ANGLE is missing; $see sine" sine odd.sheet 5
+gives 2 '' "ANGLE is missing; $see cosine" cosine odd.sheet 5 --exact
 gives 2 '' "a formula's number and angles; $see cosine" cosine odd.sheet
 
 # ---- a name stays on one line, whatever it is
@@ -173,6 +200,9 @@ for words in --help 'list --help' 'check --help' 'ask --help' 'sine --help' 'cos
     else
         fail "valvepigeon $words"
     fi
+done
+for words in 'ask --words' 'ask --steps' 'ask --exact' 'sine --words' 'sine --exact' 'cosine --words' 'cosine --exact'; do
+    right "the help of $words" grep -q "^usage: valvepigeon ${words% *} .*\[${words#* }\]" <("$command" "${words% *}" --help)
 done
 
 # ---- through links, one beside another

@@ -1,7 +1,8 @@
 -- Promise: what is answered by any sheet, for any number and argument, and is marked exact, is the formula's exact value at the argument: of a polynomial, odd,
 -- even or rational formula, of a fraction over whole numbers, and of a root, whose square is the scaled argument. A refusal has no mark, so there is an
 -- answer, and it is the formula's own.
-use Rattle.whole.proofs.Basics.{_≡_, _∙_, refl, sym, ap, subst, Bool, true, false, cond, List, ℕ, T, ℤ, ltZ}
+use Rattle.whole.proofs.Basics.{_≡_, _∙_, refl, sym, ap, subst, Bool, true, false, cond, List, ℕ, ℤ, ltZ}
+use mathlib.Core.Bool.{true≢false}
 use lib.Signed.{ltZ-no}
 use Rattle.word.specs.Words.{Scale}
 use Rattle.formula.specs.declared.Formula.{Formula}
@@ -19,9 +20,6 @@ use Rattle.answering.specs.declared.answers.Evaluation.the-variants.{Answered}
 use Rattle.answering.proofs.IntervalLaws.{answerable}
 use Rattle.board.specs.Board.{whenGiven, evaluated}
 
-no-mark : false ≡ true → ⊥
-no-mark e = subst T (sym e) tt
-
 -- one formula at one argument
 pub argument-exact : (s : ℕ) (f : Formula) (x : ℤ) → Scale s → Fit s f → evaluationExact (answerAt s f x) ≡ true → ValueOf s (f .shape) (wordsIn f) x (evaluationWord (answerAt s f x))
 unfolding answerAt
@@ -34,8 +32,8 @@ argument-exact s f x scale fits = at (ltZ x (f .lo)) (ltZ (f .hi) x) refl refl
     by b c = cond b (refused 10) (cond c (refused 10) (Answered (workedOf s (f .shape) (wordsIn f) x)))
 
     at : (b c : Bool) → ltZ x (f .lo) ≡ b → ltZ (f .hi) x ≡ c → evaluationExact (by b c) ≡ true → ValueOf s (f .shape) (wordsIn f) x (evaluationWord (by b c))
-    at true c p q t = absurd (no-mark t)
-    at false true p q t = absurd (no-mark t)
+    at true c p q t = absurd (true≢false (sym t))
+    at false true p q t = absurd (true≢false (sym t))
     at false false p q t = formula-exact s (f .shape) (wordsIn f) x (inside p q) t
 
 module _ (s : ℕ) (bytes : List ℕ) (n : ℕ) where
@@ -48,7 +46,7 @@ module _ (s : ℕ) (bytes : List ℕ) (n : ℕ) where
     where
       at : (a : Found) → formulaRead s bytes n .found ≡ a → evaluationExact (whenGiven a e) ≡ true → HasFormula s bytes n × (whenGiven a e ≡ e)
       at Given q u = (ap foundNumber q, refl)
-      at (Withheld r) q u = absurd (no-mark u)
+      at (Withheld r) q u = absurd (true≢false (sym u))
 
   pub sheet-exact : (x : ℤ) → evaluationExact (evaluated s bytes n x) ≡ true → ValueOf s (f .shape) (wordsIn f) x (evaluationWord (evaluated s bytes n x))
   sheet-exact x t =

@@ -1,6 +1,7 @@
 -- Promise: what the door gives for a double and marks exact, by any sheet, for any number, is the formula's exact value at the double's own exact value: the
 -- door's mark says that the word taken is that value (`taken-exact`), and the board's that the answer is exact there (`argument-exact`).
-use Rattle.whole.proofs.Basics.{_≡_, _∙_, refl, sym, ap, subst, true, false, List, ℕ, T, ℤ}
+use Rattle.whole.proofs.Basics.{_≡_, _∙_, refl, sym, ap, subst, true, List, ℕ, ℤ}
+use mathlib.Core.Bool.{true≢false}
 use lib.Ieee.{Float}
 use Rattle.word.specs.Words.{Scale}
 use Rattle.formula.specs.declared.Formula.{Formula}
@@ -22,9 +23,6 @@ use Rattle.desk.specs.Desk.{shownValue, shownExact, takenBy, takenAt, ev
 use Rattle.desk.specs.declared.answers.Shown.{Shown}
 use Rattle.desk.specs.declared.answers.Shown.the-variants.{Value, Refused as NotShown}
 
-no-mark : false ≡ true → ⊥
-no-mark e = subst T (sym e) tt
-
 -- z is the double's own value, and w the formula's there
 abbrev pub ExactAt : ℕ → Formula → Float → ℤ → Type 0
 ExactAt s f d w = (z : ℤ) × ValueIs s d z × ValueOf s (f .shape) (wordsIn f) z w
@@ -36,8 +34,8 @@ taken-value s f d scale fits = at (takenOf s d) refl
     at (Took w mark) q h =
         let b = both-exact mark (answerAt s f w) h in
         (w, taken-exact s d w (q ∙ ap (Took w) (b .0)), rw (marked-word mark (answerAt s f w)) (argument-exact s f w scale fits (b .1)))
-    at NoWord q h = absurd (no-mark h)
-    at NotFinite q h = absurd (no-mark h)
+    at NoWord q h = absurd (true≢false (sym h))
+    at NotFinite q h = absurd (true≢false (sym h))
 
 module _ (s : ℕ) (bytes : List ℕ) (n : ℕ) where
   abbrev f : Formula
@@ -56,4 +54,4 @@ module _ (s : ℕ) (bytes : List ℕ) (n : ℕ) where
       at (Answered w) (Value x k u) p t own = (w .word, p .0, own (sym (p .2) ∙ t))
       at (Answered w) (NotShown r) p t own = absurd p
       at (Refused q) (Value x k u) p t own = absurd p
-      at (Refused q) (NotShown r) p t own = absurd (no-mark t)
+      at (Refused q) (NotShown r) p t own = absurd (true≢false (sym t))

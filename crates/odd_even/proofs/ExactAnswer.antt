@@ -5,14 +5,13 @@ use mathlib.Core.Bool.{_&&_}
 use native.Mathlib.Nat.{pow-zero, pow-suc}
 use lib.Pow.{pow-add}
 use Rattle.whole.proofs.Diff.{v, n, _⊕_, _⊗_, same}
-use Rattle.whole.proofs.Ring.{ring, var, _:+_, _:*_}
-use Rattle.word.specs.Words.{unit, productOf}
+use Rattle.whole.proofs.Ring.{ring, var, _:*_}
+use Rattle.word.specs.Words.{unit}
 use Rattle.word.specs.Exact.{exactProduct}
 use Rattle.word.proofs.WordLaws.{product-zero}
 use Rattle.word.proofs.ExactLaws.{product-exact, exact-zero, exact-by-zero, both}
-use Rattle.polynomial.specs.Polynomial.{horner}
 use Rattle.polynomial.specs.Exact.{polynomialExact}
-use Rattle.polynomial.specs.Distance.{exact, exactSum}
+use Rattle.polynomial.specs.Distance.{exact}
 use Rattle.polynomial.proofs.ExactWalk.{exact-at-zero}
 use Rattle.polynomial.proofs.ExactAnswer.{exact-answer}
 use Rattle.polynomial.proofs.SumLaws.{unit-pow, exact-is}

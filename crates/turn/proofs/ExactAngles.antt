@@ -1,9 +1,10 @@
 -- Promise: a sine or cosine that is marked exact, by any sheet, for any number and angle: its argument is the angle's own part of a quarter, f / 2^30, and
 -- without its sign it is the formula's exact value there. A refusal has no mark; an answer's is that of the argument and that of the formula's own.
-use Rattle.whole.proofs.Basics.{_≡_, _∙_, refl, sym, ap, subst, Bool, true, false, inl, inr, List, ℕ, _-_, _^_, T, ltb, ℤ, pos, _*ℤ_}
-use lib.IntN.{negℤ-negℤ}
+use Rattle.whole.proofs.Basics.{_≡_, _∙_, sym, ap, subst, true, inl, inr, List, ℕ, _-_, _^_, ltb, ℤ, pos, _*ℤ_}
+use mathlib.Core.Bool.{true≢false}
 use lib.Pow.{pow-pos}
 use Rattle.word.specs.Words.{withSign}
+use Rattle.word.proofs.SignLaws.{sign-twice}
 use Rattle.word.proofs.ExactLaws.{rounded-divides, both}
 use Rattle.formula.specs.declared.Formula.{Formula}
 use Rattle.formula.specs.Formula.{answerOf}
@@ -17,13 +18,6 @@ use Rattle.board.proofs.AnswersInside.{formulaGiven}
 use Rattle.turn.specs.Angles.{quarterTurn, angleSum, quarterOf, restOf, foldedIn, argumentOf, exactArgument}
 use Rattle.turn.specs.Sine.{HasSine, sineOf, cosineOf}
 use Rattle.turn.proofs.EveryAngle.{ThreeWays, three-ways, argument-above, argument-below, every-angle}
-
-no-mark : false ≡ true → ⊥
-no-mark e = subst T (sym e) tt
-
-sign-twice : (t : Bool) (z : ℤ) → withSign t (withSign t z) ≡ z
-sign-twice true z = negℤ-negℤ z
-sign-twice false z = refl
 
 module _ (s : ℕ) (bytes : List ℕ) (n : ℕ) where
   abbrev f : Formula
@@ -51,8 +45,8 @@ module _ (s : ℕ) (bytes : List ℕ) (n : ℕ) where
   sine-exact a t = at (three-ways s bytes n a)
     where
       at : ThreeWays s bytes n (sineOf s bytes n a) → OwnPart a × OwnValue a (evaluationWord (sineOf s bytes n a))
-      at (inl (r, e, q)) = absurd (no-mark (sym (ap evaluationExact q) ∙ t))
-      at (inr (inl q)) = absurd (no-mark (sym (ap evaluationExact q) ∙ t))
+      at (inl (r, e, q)) = absurd (true≢false (sym t ∙ ap evaluationExact q))
+      at (inr (inl q)) = absurd (true≢false (sym t ∙ ap evaluationExact q))
       at (inr (inr (has, q))) = by-sine a has t
 
   pub cosine-exact : (a : ℕ) → evaluationExact (cosineOf s bytes n a) ≡ true → OwnPart (angleSum a quarterTurn) × OwnValue (angleSum a quarterTurn) (evaluationWord (cosineOf s bytes n a))

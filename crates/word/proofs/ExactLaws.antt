@@ -1,7 +1,7 @@
 -- What the mark says: a product or a quotient is marked exact exactly where the division leaves nothing, so that the rounded number times the divisor
 -- is what was divided. No law here depends on where a tie goes. A mark is told by sizes alone, so that signs change none.
-use Rattle.whole.proofs.Basics.{_≡_, _∙_, refl, sym, ap, ap₂, subst, Bool, true, false, ℕ, suc, _*_, _/_, _%_, _<_, arith, T, eqb, ℤ, pos, negsuc, negℤ, natAbs, _*ℤ_, eqb-true, eq-eqb}
-use mathlib.Core.Bool.{_&&_}
+use Rattle.whole.proofs.Basics.{_≡_, _∙_, refl, sym, ap, ap₂, Bool, true, false, ℕ, suc, _*_, _/_, _%_, _<_, arith, eqb, ℤ, pos, negsuc, negℤ, natAbs, _*ℤ_, eqb-true, eq-eqb}
+use mathlib.Core.Bool.{_&&_, true≢false}
 use native.Mathlib.Nat.{div-add-mod, mul-mod-left}
 use lib.IntN.{zero-*ℤ}
 use Rattle.whole.proofs.Diff.{v, n, _⊗_, ⊖_, same, same-out}
@@ -79,4 +79,4 @@ quotient-sizes s a b c d f g = ap₂ (λ (k j : ℕ). eqb (k % j) 0) (abs-mul a 
 -- ---- marks together
 pub both : (a b : Bool) → (a && b) ≡ true → (a ≡ true) × (b ≡ true)
 both true b e = (refl, e)
-both false b e = absurd (subst T (sym e) tt)
+both false b e = absurd (true≢false (sym e))

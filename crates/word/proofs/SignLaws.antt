@@ -39,6 +39,10 @@ pub sign-not : (t : Bool) (z : ℤ) → withSign (not t) z ≡ negℤ (withSign 
 sign-not true z = sym (negℤ-negℤ z)
 sign-not false z = refl
 
+pub sign-twice : (t : Bool) (z : ℤ) → withSign t (withSign t z) ≡ z
+sign-twice true z = negℤ-negℤ z
+sign-twice false z = refl
+
 pub sign-mul : (t : Bool) (z : ℤ) (k : ℕ) → withSign t z *ℤ pos k ≡ withSign t (z *ℤ pos k)
 sign-mul true z k = same (⊖ v z ⊗ n k) (⊖ (v z ⊗ n k)) (omega arith)
 sign-mul false z k = refl
