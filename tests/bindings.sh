@@ -51,8 +51,8 @@ installed() {
         [ -f "$room/site/valvepigeon/libvalvepigeon.so" ] && tests_away PYTHONPATH="$room/site"
 }
 
-# A release, with a blank in its name: lib/ and bindings/. Elsewhere a package alone, and an older library.
-release="$room/the release" alone=$room/alone older=$room/older
+# A release, with a blank in its name: lib/ and bindings/. Elsewhere a package alone, and a library of another version.
+release="$room/the release" alone=$room/alone other=$room/other
 
 # The library in a folder where pkg-config knows it by a version.
 known() { # FOLDER VERSION
@@ -84,9 +84,14 @@ call_rust() {
     right 'bindings/rust in the repository' cargo_in bindings/rust test
     right 'bindings/rust in a release' cargo_in "$release/bindings/rust" build
     if here pkg-config; then
-        known "$older" 1.3.0
-        PKG_CONFIG_PATH="$older/lib/pkgconfig" wrong 'bindings/rust with an older library' 101 'run ./build-library' cargo_in "$alone/rust" build
+        local first=${version%%.*} rest=${version#*.}
+        for number in 1.3.0 "$first.$((${rest%%.*} - 1)).9" "$((first + 1)).9.0"; do
+            known "$other" "$number"
+            PKG_CONFIG_PATH="$other/lib/pkgconfig" wrong "bindings/rust with the library $number" 101 'run ./build-library' cargo_in "$alone/rust" build
+        done
         PKG_CONFIG_PATH="$release/lib/pkgconfig" right 'bindings/rust by pkg-config' cargo_in "$alone/rust" build
+        known "$other" "$first.10.0"
+        PKG_CONFIG_PATH="$other/lib/pkgconfig" right 'bindings/rust with a later library' cargo_in "$alone/rust" build
     else
         echo 'skipped: bindings/rust by pkg-config, which is not here'
     fi

@@ -1,6 +1,7 @@
 /* The header's constants are what the library does: each refusal is met by its name, each kind answers by its rule, and each size
    is met by a sheet that has it.
    A line for each that is not so; the last line says how many are. */
+#include <stddef.h>
 #include <stdio.h>
 #include <string.h>
 #include "valvepigeon.h"
@@ -89,10 +90,32 @@ static void sizes(void) {
     hold("one more", vp_write_sheet(run, sizeof run, out, sizeof out).refused, VP_WRONG_COUNT);
 }
 
-/* The bytes that the header tells of, beside its version. */
+/* The structs as programs have them that were compiled with a header of 2.0.0. */
+typedef struct {
+    uint32_t refused;
+    uint64_t place;
+    int32_t word;
+    uint16_t steps;
+} older_worked;
+typedef struct {
+    uint32_t refused;
+    uint64_t place;
+    double value;
+    uint16_t steps;
+} older_shown;
+
+/* The bytes that the header tells of, beside its version: sizes and places that stay, and what stands where padding was. */
 static void structs(void) {
     hold("vp_worked", sizeof(vp_worked), 24);
     hold("vp_shown", sizeof(vp_shown), 32);
+    hold("vp_worked, older", sizeof(older_worked), 24);
+    hold("vp_shown, older", sizeof(older_shown), 32);
+    hold("word", offsetof(vp_worked, word), offsetof(older_worked, word));
+    hold("steps behind a word", offsetof(vp_worked, steps), offsetof(older_worked, steps));
+    hold("exact behind a word", offsetof(vp_worked, exact), 22);
+    hold("value", offsetof(vp_shown, value), offsetof(older_shown, value));
+    hold("steps behind a double", offsetof(vp_shown, steps), offsetof(older_shown, steps));
+    hold("exact behind a double", offsetof(vp_shown, exact), 26);
 }
 
 static void version(void) {

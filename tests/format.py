@@ -87,11 +87,12 @@ def formula_of(text):
 
 # ---- a question with the page's answer, for both programs
 
-def with_steps(answer):
-    """The parts of 'ANSWER after N steps'; where no steps are told, 0."""
-    itself, steps = re.fullmatch(
-        r"(\S+)(?: after (\d+) steps)?", answer).groups("0")
-    return itself, int(steps)
+def parts(answer):
+    """The parts of 'ANSWER after N steps MARK': the answer as it stands, the
+    steps, which are 0 where none are told, and the mark."""
+    itself, steps, mark = re.fullmatch(
+        r"(\S+)(?: after (\d+) steps)? (exact|rounded)", answer).groups("0")
+    return itself, int(steps), mark == "exact"
 
 
 def values_of(question, content, answer):
@@ -100,11 +101,11 @@ def values_of(question, content, answer):
     if question == questions.FORMULA:
         return questions.packed_fields(formula_of(answer))
     if question in (questions.EVALUATE, questions.SINE, questions.COSINE):
-        word, steps = with_steps(answer)
-        return pack("<iH", int(word), steps)
+        word, steps, exact = parts(answer)
+        return pack("<iHH", int(word), steps, exact)
     if question == questions.DOUBLE:
-        value, steps = with_steps(answer)
-        return pack("<dH", float(value), steps)
+        value, steps, exact = parts(answer)
+        return pack("<dHH", float(value), steps, exact)
     if question == questions.INTERVAL:
         return b"".join(pack("<d", float(x)) for x in answer.split())
     written = sheets[answer] if answer in sheets else bytes.fromhex(answer)
@@ -155,14 +156,19 @@ OPERATIONS = {
 }
 
 
+def told_of(name, answer):
+    """What an operation of the second program gives, by the page: a bound is a
+    number alone, the others have a mark, and the root alone has steps."""
+    if name.startswith("bound "):
+        return int(answer)
+    n, steps, exact = parts(answer)
+    return (int(n), steps, exact) if steps or name == "root" else (int(n), exact)
+
+
 def operation(line, name, numbers, answer):
     itself, by_formulas = OPERATIONS[name]
-    n, steps = with_steps(answer)
-    found = itself(*numbers)
-    if name != "root":
-        found = found, 0  # the root alone has steps
-    check(found == (int(n), steps), line)
-    if number.is_word(int(n)):
+    check(itself(*numbers) == told_of(name, answer), line)
+    if number.is_word(int(answer.split()[0])):
         for asked, expected in by_formulas(answer, *numbers):
             put(line, asked, expected)
 

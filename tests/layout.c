@@ -13,8 +13,8 @@ int main(void) {
     FIELD(vp_fields, p), FIELD(vp_fields, q), FIELD(vp_fields, mode), FIELD(vp_fields, words);
     HEAD(vp_counted), FIELD(vp_counted, count);
     HEAD(vp_found), FIELD(vp_found, fields);
-    HEAD(vp_worked), FIELD(vp_worked, word), FIELD(vp_worked, steps);
-    HEAD(vp_shown), FIELD(vp_shown, value), FIELD(vp_shown, steps);
+    HEAD(vp_worked), FIELD(vp_worked, word), FIELD(vp_worked, steps), FIELD(vp_worked, exact);
+    HEAD(vp_shown), FIELD(vp_shown, value), FIELD(vp_shown, steps), FIELD(vp_shown, exact);
     HEAD(vp_ends), FIELD(vp_ends, low), FIELD(vp_ends, high);
     HEAD(vp_written), FIELD(vp_written, length);
     return 0;

@@ -27,16 +27,18 @@ int main(void) {
     uint8_t sheet[32];
     FILE *file = fopen("sheet", "rb");
     size_t length = file ? fread(sheet, 1, sizeof sheet, file) : 0;
-    vp_worked root = vp_evaluate(sheet, length, 1, 33554432);
-    vp_shown shown = vp_evaluate_double(sheet, length, 1, 2);
+    vp_worked root = vp_evaluate(sheet, length, 1, 33554432), one = vp_evaluate(sheet, length, 1, 16777216);
+    vp_shown shown = vp_evaluate_double(sheet, length, 1, 2), one_shown = vp_evaluate_double(sheet, length, 1, 1);
     if (root.refused) puts(vp_message(root.refused));
     else printf("%s: %d after %u steps, %.8f after %u\n", VP_VERSION_STRING, root.word, root.steps, shown.value, shown.steps);
+    printf("exact: %u %u, %u %u\n", root.exact, shown.exact, one.exact, one_shown.exact);
     return vp_evaluate(sheet, length, 1, -1).refused != VP_ARGUMENT_OUTSIDE;
 }
 C
 
-prints() { # WHAT PROGRAM: the root of 2 is the paper's
-    is "$1" "$(cd "$room" && LD_LIBRARY_PATH=$prefix/lib "$2" 2>&1)" "$version: 23726566 after 5 steps, 1.41421354 after 5"
+prints() { # WHAT PROGRAM: the root of 2 is the paper's, and rounded; that of 1 is exact
+    is "$1" "$(cd "$room" && LD_LIBRARY_PATH=$prefix/lib "$2" 2>&1)" \
+        "$version: 23726566 after 5 steps, 1.41421354 after 5"$'\nexact: 0 0, 1 1'
 }
 
 # Compiles the program through pkg-config, as C and as C++, with the shared library; and with the archive.
@@ -63,7 +65,8 @@ compiled() {
 if [ "$(uname -m)" != x86_64 ]; then
     echo "skipped: what is installed, it is for x86-64 and this is $(uname -m)"
 else
-    is 'the installed command' "$(PATH=/usr/bin:/bin "$prefix/bin/valvepigeon" ask "$room/sheet" 1 2 --words --steps 2>&1)" '23726566 5'
+    is 'the installed command' "$(PATH=/usr/bin:/bin "$prefix/bin/valvepigeon" ask "$room/sheet" 1 2 1 --words --steps --exact 2>&1)" \
+        $'23726566 5 rounded\n16777216 5 exact'
     if command -v cc >"$room/cc" && command -v pkg-config >"$room/pkg-config"; then
         compiled
     else

@@ -1,6 +1,6 @@
--- When an argument is inside a formula's interval, and what is answered then.
+-- When an argument is inside a formula's interval, and what is answered then; so what holds of 10 and of a formula's own answer holds of every answer.
 use Rattle.whole.proofs.Basics.{_≡_, _∙_, refl, sym, ap, Bool, true, false, cond, ℕ, T, ℤ, _≤ℤ_, _<ℤ_, ltZ}
-use lib.Signed.{clashℤ}
+use lib.Signed.{clashℤ, ltZ-no}
 use Rattle.word.specs.Words.{Scale}
 use Rattle.formula.specs.declared.Formula.{Formula}
 use Rattle.formula.specs.Formula.{workedOf, Answerable}
@@ -50,3 +50,13 @@ module _ (s : ℕ) (f : Formula) (x : ℤ) where
 
     pub answerable : x ≤ℤ f .hi → Scale s → Fit s f → Answerable s (f .shape) (wordsIn f) x
     answerable h b k = record { scale = b; lo = f .lo; hi = f .hi; sound = k .sound; admitted = k .admitted; above = l; below = h }
+
+-- what holds outside the interval and inside holds of every argument
+pub at-argument : (P : Evaluation → Type 0) (s : ℕ) (f : Formula) (x : ℤ) → Scale s → Fit s f → P (refused 10) → (Answerable s (f .shape) (wordsIn f) x → P (Answered (workedOf s (f .shape) (wordsIn f) x))) → P (answerAt s f x)
+unfolding answerAt
+at-argument P s f x scale fits outside own = at (ltZ x (f .lo)) (ltZ (f .hi) x) refl refl
+  where
+    at : (b c : Bool) → ltZ x (f .lo) ≡ b → ltZ (f .hi) x ≡ c → P (cond b (refused 10) (cond c (refused 10) (within s f x)))
+    at true c p q = outside
+    at false true p q = outside
+    at false false p q = own (answerable s f x (ltZ-no (rw p tt)) (ltZ-no (rw q tt)) scale fits)

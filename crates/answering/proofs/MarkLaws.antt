@@ -1,7 +1,7 @@
 -- What an argument's own rounding changes of an answer, which is the mark alone: an argument that is exact leaves it as it is, and an answer that is exact
 -- has an exact argument and is exact itself. Case by case.
-use Rattle.whole.proofs.Basics.{_≡_, refl, sym, Bool, true, false}
-use mathlib.Core.Bool.{_&&_, true≢false}
+use Rattle.whole.proofs.Basics.{_≡_, refl, Bool, true, false}
+use mathlib.Core.Bool.{_&&_, false≢true}
 use Rattle.word.proofs.ExactLaws.{both}
 use Rattle.answering.specs.Answering.{evaluationNumber, evaluationPlace, evaluationWord, evaluationSteps, evaluationExact, withMark}
 use Rattle.answering.specs.declared.answers.Evaluation.{Evaluation}
@@ -34,4 +34,4 @@ marked-exact (Refused r) = refl
 
 pub both-exact : (t : Bool) (e : Evaluation) → evaluationExact (withMark t e) ≡ true → (t ≡ true) × (evaluationExact e ≡ true)
 both-exact t (Answered w) h = both t (w .exact) h
-both-exact t (Refused r) h = absurd (true≢false (sym h))
+both-exact t (Refused r) h = absurd (false≢true h)

@@ -17,7 +17,7 @@ use Rattle.faults.specs.Guard.{refusal}
 use Rattle.answering.specs.declared.answers.Evaluation.{Evaluation}
 use Rattle.answering.specs.declared.answers.Evaluation.the-variants.{Answered, Refused}
 
--- ---- the paper's number, place, word, steps and mark of each case; 0 where there is none, and no mark
+-- ---- the paper's number, place, word and steps of each case, 0 where there is none; and whether it is exact, which no refusal is
 abbrev pub evaluationNumber : Evaluation → ℕ
 evaluationNumber (Answered w) = 0
 evaluationNumber (Refused r) = r .number
@@ -34,7 +34,6 @@ abbrev pub evaluationSteps : Evaluation → ℕ
 evaluationSteps (Answered w) = w .steps
 evaluationSteps (Refused r) = 0
 
--- exact, or rounded
 abbrev pub evaluationExact : Evaluation → Bool
 evaluationExact (Answered w) = w .exact
 evaluationExact (Refused r) = false

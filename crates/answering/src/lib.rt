@@ -48,7 +48,7 @@ pub fn answer_of(b: &[u8], x: i32, s: u32) -> Evaluation
     })
 }
 
-// The answer at an argument that is exact, or was rounded itself: that counts as the answer's own rounding.
+// The answer with its argument's own rounding counted: it stays exact only where the argument is exact too.
 pub fn with_mark(e: Evaluation, exact: bool) -> Evaluation
     ensures { λ r. ⌜ r ≡ withMark exact e ⌝ }
 {

@@ -1,4 +1,5 @@
--- Demand 3: a formula in an accepted sheet answers every argument in its own interval, by its kind's rule and with its steps and mark, and refuses every other by 10.
+-- Demand 3: a formula in an accepted sheet answers every argument in its own interval, by its kind's rule and with its steps and mark, and
+-- refuses every other by 10.
 -- `HasFormula s bytes n` says that the sheet is accepted and has a formula numbered n (`found-exactly` of the reader's promises).
 use Rattle.whole.proofs.Basics.{_≡_, _∙_, refl, sym, ap, subst, _⊎_, inl, inr, List, ℕ, ℤ, _≤ℤ_, _<ℤ_}
 use Rattle.word.specs.Words.{Word, NotZero}

@@ -3,7 +3,9 @@ use Rattle.whole.proofs.Basics.{_≡_, refl, sym, ap, List, ℕ}
 use Rattle.formula.specs.declared.Formula.{Formula}
 use Rattle.layout.specs.Fields.{rowFor, loOf, hiOf, shapeOf, formulaOf}
 use Rattle.faults.specs.declared.Refusal.{Refusal}
-use Rattle.sheet.specs.Reader.{formulaPlace, formulaIn, formulaAt, readAt, formulaRead}
+use Rattle.sheet.specs.Reader.{formulaPlace, formulaIn, formulaAt, readAt, foundNumber, formulaRead, HasFormula}
+use Rattle.sheet.specs.declared.answers.Found.{Found}
+use Rattle.sheet.specs.declared.answers.Found.the-variants.{Given, Refused as Withheld}
 use Rattle.sheet.specs.declared.answers.Place.{Place}
 use Rattle.sheet.specs.declared.answers.Place.the-variants.{At, Refused as Absent}
 use Rattle.answering.specs.declared.answers.Evaluation.{Evaluation}
@@ -22,6 +24,14 @@ module _ (s : ℕ) (bytes : List ℕ) (n : ℕ) where
     pub when-refused : (q : Refusal) → formulaPlace s bytes n ≡ Absent q → Refused q ≡ whenGiven (formulaRead s bytes n .found) (answer (formulaRead s bytes n .formula))
     unfolding formulaRead
     when-refused q e = by-place (Absent q) (formulaPlace s bytes n) (sym e)
+
+-- ---- what holds of the reader's refusals, and of an answer where the sheet has the formula, holds of what the board answers
+pub given-or-refused : (P : Evaluation → Type 0) (s : ℕ) (bytes : List ℕ) (n : ℕ) (e : Evaluation) → ((r : Refusal) → P (Refused r)) → (HasFormula s bytes n → P e) → P (whenGiven (formulaRead s bytes n .found) e)
+given-or-refused P s bytes n e withheld own = at (formulaRead s bytes n .found) refl
+  where
+    at : (a : Found) → formulaRead s bytes n .found ≡ a → P (whenGiven a e)
+    at Given q = own (ap foundNumber q)
+    at (Withheld r) q = withheld r
 
 -- ---- a record's own fields
 module _ (b : List ℕ) where

@@ -29,7 +29,7 @@ use Rattle.desk.specs.declared.answers.Interval.the-variants.{Between, R
 abbrev plusZero : Float
 plusZero = ofBits binary64 0
 
--- ---- the paper's number, place and values of each case, and the mark; 0 where there is none, and no mark
+-- ---- the paper's number, place and values of each case, 0 where there is none; and whether it is exact, which no refusal is
 abbrev pub shownNumber : Shown → ℕ
 shownNumber (Value x k e) = 0
 shownNumber (NotShown r) = r .number

@@ -1,4 +1,5 @@
-// Doubles at the desk: a whole sheet, a number and a double in; a double with its steps and its mark, or a numbered refusal, out. A formula's interval as two doubles.
+// Doubles at the desk: a whole sheet, a number and a double in; a double with its steps and its mark, or a numbered refusal, out. A
+// formula's interval as two doubles.
 ghost use mathlib.Core.Path.{_≡_};
 ghost use Rattle.word.specs.Words.{Scale};
 ghost use Rattle.records.specs.Sheets.{FormulaBytes};

@@ -1,6 +1,6 @@
 -- The laws of `takenOf`: it sees only a double's sign and value, and which sizes give 0 or no word. Both come from laws of rounding and of remainders.
-use Rattle.whole.proofs.Basics.{_≡_, _∙_, refl, sym, ap, ap₂, Bool, true, false, cond, ℕ, _+_, _*_, _/_, _%_, _≤_, _<_, arith, ℤ, pos, natAbs, _*ℤ_, eqb-true, eqb-false, eq-eqb, ne-eqb}
-use native.Mathlib.Nat.{mul-right-comm, mul-mod-left, div-add-mod, eq-of-mul-eq-mul-right, lt-of-mul-lt-mul-right}
+use Rattle.whole.proofs.Basics.{_≡_, _∙_, refl, sym, ap, ap₂, Bool, cond, ℕ, _+_, _*_, _≤_, _<_, arith, ℤ, pos, natAbs, _*ℤ_}
+use native.Mathlib.Nat.{mul-right-comm, lt-of-mul-lt-mul-right}
 use lib.Ieee.{Float, nan, inf, fin, up, down}
 use lib.Ieee.Fits.{down-pos}
 use lib.Ieee.Exact.{HasValue}
@@ -11,6 +11,7 @@ use Rattle.word.specs.Rounded.{rounded}
 use Rattle.word.specs.Words.{largest, unit, withSign}
 use Rattle.word.specs.Exact.{divides}
 use Rattle.word.proofs.RoundedLaws.{rounded-near, rounded-same}
+use Rattle.word.proofs.ExactLaws.{divides-same}
 use Rattle.word.proofs.SignLaws.{sign-mul}
 use Rattle.door.specs.declared.answer.Taken.{Taken}
 use Rattle.door.specs.declared.answer.Taken.the-variants.{Word, NoWord, NotFinite}
@@ -33,21 +34,6 @@ unfolding takenOf
 taken-fin s t m e = refl
 
 -- ---- it sees only the fraction's value
-whole-too : (a d b c : ℕ) → 0 < d → a * c ≡ b * d → a % d ≡ 0 → b % c ≡ 0
-whole-too a d b c D e h =
-    let f : a ≡ d * (a / d) = omega (arith, div-add-mod a d) in
-    ap (λ (z : ℕ). z % c) (eq-of-mul-eq-mul-right d D b (a / d * c) (omega (arith, ap (λ (z : ℕ). z * c) f))) ∙ mul-mod-left (a / d) c
-
-divides-same : (m : ℤ) (d : ℕ) (k : ℤ) (c : ℕ) → 0 < d → 0 < c → m *ℤ pos c ≡ k *ℤ pos d → divides d m ≡ divides c k
-divides-same m d k c D C e = by (divides d m) refl
-  where
-    sizes : natAbs m * c ≡ natAbs k * d
-    sizes = sym (abs-mul m (pos c)) ∙ ap natAbs e ∙ abs-mul k (pos d)
-
-    by : (t : Bool) → divides d m ≡ t → t ≡ divides c k
-    by true h = sym (eq-eqb (natAbs k % c) 0 (whole-too (natAbs m) d (natAbs k) c D sizes (eqb-true (natAbs m % d) 0 h)))
-    by false h = sym (ne-eqb (natAbs k % c) 0 (λ w. eqb-false (natAbs m % d) 0 h (whole-too (natAbs k) c (natAbs m) d C (sym sizes) w)))
-
 pub ratio-same : (m : ℤ) (d : ℕ) (k : ℤ) (c : ℕ) → 0 < d → 0 < c → m *ℤ pos c ≡ k *ℤ pos d → fromRatio m d ≡ fromRatio k c
 ratio-same m d k c D C e = ap₂ asWord (rounded-same m d k c D C e) (divides-same m d k c D C e)
 

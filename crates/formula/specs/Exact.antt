@@ -3,13 +3,13 @@ use mathlib.Core.Path.{_≡_, refl}
 use mathlib.Core.Bool.{Bool, true, false}
 use mathlib.Core.List.{List, [], _∷_}
 use Prim.Native.Nat.{ℕ, _+_, _*_, _-_, _^_}
-use lib.IntN.{ℤ, pos, natAbs, _*ℤ_}
+use lib.IntN.{ℤ, pos, natAbs, _*ℤ_, pow, one}
 use lib.ListN.{take, drop}
 use Rattle.word.specs.Rounded.{rounded}
-use Rattle.word.specs.Words.{unit}
+use Rattle.word.specs.Words.{NotZero, unit}
 use Rattle.root.specs.Root.{rootIn, exactRoot}
 use Rattle.polynomial.specs.Polynomial.{horner}
-use Rattle.polynomial.specs.Distance.{exactSum}
+use Rattle.polynomial.specs.Distance.{sumBelowℤ, exactSum}
 use Rattle.polynomial.specs.Exact.{polynomialExact}
 use Rattle.odd_even.specs.Exact.{evenExact, oddExact, evenValue, oddValue}
 use Rattle.rational.specs.Exact.{rationalExact}
@@ -31,11 +31,11 @@ exactBy NoFormula s p q mode ws x = true
 abbrev pub exactOf : ℕ → Shape → List ℤ → ℤ → Bool
 exactOf s h ws x = exactBy (h .kind) s (h .p) (h .q) (h .mode) ws x
 
--- ---- that the word a is the formula's exact value at x, with x and the coefficients in steps and every denominator multiplied out. A polynomial's
--- is c0 + c1·x + .., that of an even one c0 + c1·x² + .., of an odd one x times that, of a rational 2^s·N/D; a root's square is x·2^s
+-- ---- that the word a is the formula's exact value at x, in steps, with every denominator multiplied out. With x in ones a polynomial's is c0 + c1·x + ..,
+-- an even one's that of x², an odd one's x times that; a rational's is 2^s·N/D, a fraction's `fractionRatio`; a root's square is x·2^s
 abbrev pub ValueBy : Kind → ℕ → ℕ → ℕ → ℕ → List ℤ → ℤ → ℤ → Type 0
 ValueBy Polynomial s p q mode ws x a = a *ℤ pos (2 ^ (s * (p - 1))) ≡ exactSum s (take p ws) (p - 1) x
-ValueBy Rational s p q mode ws x a = a *ℤ exactSum s (take q (drop p ws)) (q - 1) x *ℤ pos (2 ^ (s * (p - 1))) ≡ pos (2 ^ s) *ℤ exactSum s (take p ws) (p - 1) x *ℤ pos (2 ^ (s * (q - 1)))
+ValueBy Rational s p q mode ws x a = (a *ℤ exactSum s (take q (drop p ws)) (q - 1) x *ℤ pos (2 ^ (s * (p - 1))) ≡ pos (2 ^ s) *ℤ exactSum s (take p ws) (p - 1) x *ℤ pos (2 ^ (s * (q - 1)))) × NotZero (exactSum s (take q (drop p ws)) (q - 1) x)
 ValueBy Fraction s p q mode ws x a = Equals a (fractionRatio s mode ws p x)
 ValueBy Root s p q mode ws x a = a *ℤ a ≡ pos (natAbs x * unit s)
 ValueBy Odd s p q mode ws x a = a *ℤ (pos (2 ^ ((s + s) * (p - 1))) *ℤ pos (2 ^ s)) ≡ oddValue s (take p ws) (p - 1) x
@@ -46,14 +46,14 @@ abbrev pub ValueOf : ℕ → Shape → List ℤ → ℤ → ℤ → Type 0
 ValueOf s h ws x a = ValueBy (h .kind) s (h .p) (h .q) (h .mode) ws x a
 
 -- ---- worked examples: as many words as there are coefficients. Half a step is rounded by the second of them, and not by a word past the last
-counted :
+as-many-words :
     (exactBy Polynomial 24 2 0 0 (pos 3 ∷ pos 8388608 ∷ []) (pos 1) ≡ false)
     × (exactBy Polynomial 24 1 0 0 (pos 3 ∷ pos 8388608 ∷ []) (pos 1) ≡ true)
     × (exactBy Rational 24 1 2 0 (pos 0 ∷ pos 3 ∷ pos 8388608 ∷ []) (pos 1) ≡ false)
     × (exactBy Rational 24 1 1 0 (pos 0 ∷ pos 3 ∷ pos 8388608 ∷ []) (pos 1) ≡ true)
     × (exactBy Rational 24 2 1 0 (pos 0 ∷ pos 8388608 ∷ pos 16777216 ∷ []) (pos 1) ≡ false)
 unfolding polynomialExact horner rounded
-counted = (refl, refl, refl, refl, refl)
+as-many-words = (refl, refl, refl, refl, refl)
 
 -- odd and even are not each other: half a step's odd product is rounded, and even has none; the square of one step counts from two coefficients on
 odd-and-even :
@@ -78,6 +78,7 @@ roots : (exactBy Root 24 0 0 0 [] (pos 37748736) ≡ true) × (exactBy Root 24 0
 unfolding rootIn
 roots = (refl, refl, refl)
 
--- the root of two and a quarter is one and a half, and not minus that; no other word's square will do
-a-value : ValueBy Root 24 0 0 0 [] (pos 37748736) (pos 25165824)
-a-value = refl
+-- one and a half times itself is two and a quarter; 1 + x/2 at a half is one and a quarter; with a word past the last
+some-values : ValueBy Root 24 0 0 0 [] (pos 37748736) (pos 25165824) × ValueBy Polynomial 24 2 0 0 (pos 16777216 ∷ pos 8388608 ∷ pos 1 ∷ []) (pos 8388608) (pos 20971520)
+unfolding sumBelowℤ pow one
+some-values = (refl, refl)

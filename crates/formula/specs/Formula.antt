@@ -170,7 +170,7 @@ root-numbers = (refl, refl, refl)
 
 -- a root tells its steps, 6 of four, 5 of two and none of 0, and of the word 1 at 16 places 4; the constant 3 tells none, and neither do the other kinds.
 -- That of two is rounded, and so is half a step
-root-steps :
+steps-and-marks :
     (workedOf 24 (record { kind = Root; p = 0; q = 0; mode = 0 }) [] (pos 67108864) ≡ worked (pos 33554432) 6 true)
     × (workedOf 24 (record { kind = Root; p = 0; q = 0; mode = 0 }) [] (pos 33554432) ≡ worked (pos 23726566) 5 false)
     × (workedOf 24 (record { kind = Root; p = 0; q = 0; mode = 0 }) [] (pos 0) ≡ worked (pos 0) 0 true)
@@ -178,7 +178,7 @@ root-steps :
     × (workedOf 24 (record { kind = Polynomial; p = 1; q = 0; mode = 0 }) (pos 3 ∷ []) (pos 67108864) ≡ worked (pos 3) 0 true)
     × (workedOf 24 (record { kind = Polynomial; p = 2; q = 0; mode = 0 }) (pos 3 ∷ pos 8388608 ∷ []) (pos 1) ≡ worked (pos 4) 0 false)
 unfolding rootIn heronFrom digitsIn horner polynomialExact rounded
-root-steps = (refl, refl, refl, refl, refl, refl)
+steps-and-marks = (refl, refl, refl, refl, refl, refl)
 
 no-steps :
     (stepsBy Polynomial 24 (pos 67108864) ≡ 0)

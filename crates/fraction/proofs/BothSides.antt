@@ -1,14 +1,14 @@
 -- A fraction of mode 2 with b0 zero answers at -x exactly the negated answer, and one of mode 1 the same: the square is the same, and v1, which
 -- alone changes its sign, comes in at the outermost term. The mark at -x is that at x, whatever b0 is: it is told by sizes.
-use Rattle.whole.proofs.Basics.{_≡_, _∙_, refl, sym, ap, ap₂, Bool, true, cond, List, ℕ, suc, zero, ℤ, pos, negℤ, natAbs}
+use Rattle.whole.proofs.Basics.{_≡_, _∙_, refl, sym, ap, ap₂, Bool, true, List, ℕ, suc, zero, ℤ, pos, negℤ, natAbs}
 use mathlib.Core.Bool.{_&&_}
 use Rattle.whole.proofs.Order.{abs-neg}
 use Rattle.word.specs.Words.{productOf, quotientOf}
 use Rattle.word.proofs.SignLaws.{sign-behind-zero}
 use Rattle.word.proofs.WordLaws.{product-odd-right, product-same, quotient-odd-dividend}
-use Rattle.word.proofs.ExactLaws.{product-sizes, quotient-sizes}
+use Rattle.word.proofs.ExactLaws.{product-sizes, quotient-sizes, square-same}
 use Rattle.fraction.specs.Fraction.{bAt, aAfter, nextOf, outward, fractionOf}
-use Rattle.fraction.specs.Exact.{stepExact, outwardExact, squareUsed, squareExact, fractionExact}
+use Rattle.fraction.specs.Exact.{stepExact, outwardExact, squareUsed, fractionExact}
 
 -- the outermost term, by -v1
 outermost : (s : ℕ) (a b w t : ℤ) → b ≡ pos 0 → nextOf s a b (negℤ w) t ≡ negℤ (nextOf s a b w t)
@@ -32,9 +32,6 @@ pub fraction-same : (s : ℕ) (ws : List ℤ) (k : ℕ) (x : ℤ) → fractionOf
 fraction-same s ws k x = ap (λ (q : ℤ). outward s q q ws k (bAt ws k)) (product-same s x x)
 
 -- ---- the marks. The square's
-square-mark-same : (s mode k : ℕ) (x : ℤ) → squareExact s mode k (negℤ x) ≡ squareExact s mode k x
-square-mark-same s mode k x = ap (λ (e : Bool). cond (squareUsed mode k) e true) (product-sizes s (negℤ x) (negℤ x) x x (abs-neg x) (abs-neg x))
-
 -- the outermost step's, by -v1, and the walk's, of any depth
 step-mark-negated : (s : ℕ) (a w t : ℤ) → stepExact s a (negℤ w) t ≡ stepExact s a w t
 step-mark-negated s a w t =
@@ -55,8 +52,8 @@ pub fraction-mark-negated : (s : ℕ) (ws : List ℤ) (k : ℕ) (x : ℤ) → fr
 fraction-mark-negated s ws k x =
     let t = bAt ws k in
     ap₂ _&&_
-    (square-mark-same s 2 k x)
+    (square-same (squareUsed 2 k) s x)
     (ap (λ (q : ℤ). outwardExact s (negℤ x) q ws k t) (product-same s x x) ∙ outward-mark-negated s x (productOf s x x) ws k t)
 
 pub fraction-mark-same : (s : ℕ) (ws : List ℤ) (k : ℕ) (x : ℤ) → fractionExact s 1 ws k (negℤ x) ≡ fractionExact s 1 ws k x
-fraction-mark-same s ws k x = ap₂ _&&_ (square-mark-same s 1 k x) (ap (λ (q : ℤ). outwardExact s q q ws k (bAt ws k)) (product-same s x x))
+fraction-mark-same s ws k x = ap₂ _&&_ (square-same true s x) (ap (λ (q : ℤ). outwardExact s q q ws k (bAt ws k)) (product-same s x x))

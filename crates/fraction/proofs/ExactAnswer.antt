@@ -1,20 +1,15 @@
 -- A fraction's answer that is marked exact is the fraction's exact value. Where v is y/o and t is p/q, a step whose product and quotient are exact
 -- gives b + a·(y/o)/(p/q); so it goes from b_k outward.
 use Rattle.whole.proofs.Basics.{_≡_, _∙_, sym, ap, subst, true, List, [], _∷_, ℕ, suc, zero, _<_, arith, ltb, ℤ, pos, _+ℤ_, _*ℤ_, lt-ltb}
-use native.Mathlib.Nat.{mul-le-mul}
 use Rattle.whole.proofs.Diff.{v, n, _⊗_, same}
-use Rattle.whole.proofs.Order.{abs-mul}
 use Rattle.whole.proofs.Ring.{ring, var, _:+_, _:*_}
 use Rattle.word.specs.Words.{NotZero, unit, productOf, quotientOf}
-use Rattle.word.specs.Exact.{exactProduct, exactQuotient}
+use Rattle.word.specs.Exact.{exactProduct, exactQuotient, squareExact}
 use Rattle.word.specs.Lists.{All}
-use Rattle.word.proofs.WordLaws.{unit-pos}
+use Rattle.word.proofs.WordLaws.{unit-pos, not-zero-times}
 use Rattle.word.proofs.ExactLaws.{product-exact, quotient-exact, both}
 use Rattle.fraction.specs.Fraction.{bAt, aAfter, at, firstOf, restOf, nextOf, outward, fractionOf, outwardDivisors, fractionDivisors}
-use Rattle.fraction.specs.Exact.{stepExact, outwardExact, squareExact, fractionExact, Ratio, whole, square, nextRatio, outwardRatio, fractionRatio, Equals}
-
-not-zero-times : (a b : ℤ) → NotZero a → NotZero b → NotZero (a *ℤ b)
-not-zero-times a b f g = omega (arith, abs-mul a b, mul-le-mul f g)
+use Rattle.fraction.specs.Exact.{stepExact, outwardExact, squareUsed, fractionExact, Ratio, overOne, square, nextRatio, outwardRatio, fractionRatio, Equals}
 
 -- ---- one step, by three identities
 taken-apart : (b z o p : ℤ) → (b +ℤ z) *ℤ (o *ℤ p) ≡ b *ℤ (o *ℤ p) +ℤ z *ℤ (o *ℤ p)
@@ -78,8 +73,8 @@ module _ (s : ℕ) (first rest : ℤ) (First Rest : Ratio) (ws : List ℤ) where
       outward-equals i (nextOf s a b w t) (nextRatio a b W r) (λ j h. used j (omega arith)) (k .1) (f .1) step
 
 -- ---- the v's of each mode
-whole-equals : (x : ℤ) → Equals x (whole x)
-whole-equals x = (same (v x ⊗ n 1) (v x) (omega arith), omega arith)
+over-one-equals : (x : ℤ) → Equals x (overOne x)
+over-one-equals x = (same (v x ⊗ n 1) (v x) (omega arith), omega arith)
 
 square-equals : (s : ℕ) (x : ℤ) → exactProduct s x x ≡ true → Equals (productOf s x x) (square s x)
 square-equals s x e = (product-exact s x x e, unit-pos s)
@@ -90,20 +85,20 @@ at-equals a b A B (suc i) f g = g
 
 used-equals :
     (s mode k : ℕ) (x : ℤ)
-    → squareExact s mode k x ≡ true
+    → squareExact (squareUsed mode k) s x ≡ true
     → (i : ℕ)
     → i < k
     → Equals
     (at (firstOf mode x (productOf s x x)) (restOf mode x (productOf s x x)) i)
-    (at (firstOf mode (whole x) (square s x)) (restOf mode (whole x) (square s x)) i)
-used-equals s zero k x e i h = at-equals x x (whole x) (whole x) i (whole-equals x) (whole-equals x)
+    (at (firstOf mode (overOne x) (square s x)) (restOf mode (overOne x) (square s x)) i)
+used-equals s zero k x e i h = at-equals x x (overOne x) (overOne x) i (over-one-equals x) (over-one-equals x)
 used-equals s (suc zero) k x e i h = let q = productOf s x x in at-equals q q (square s x) (square s x) i (square-equals s x e) (square-equals s x e)
 used-equals s (suc (suc m)) zero x e i h = absurd (omega arith)
-used-equals s (suc (suc m)) (suc zero) x e zero h = whole-equals x
+used-equals s (suc (suc m)) (suc zero) x e zero h = over-one-equals x
 used-equals s (suc (suc m)) (suc zero) x e (suc i) h = absurd (omega arith)
 used-equals s (suc (suc m)) (suc (suc k)) x e i h =
     let u : ltb 1 (suc (suc k)) ≡ true = lt-ltb 1 (suc (suc k)) (omega arith) in
-    at-equals x (productOf s x x) (whole x) (square s x) i (whole-equals x) (square-equals s x (rw u at e))
+    at-equals x (productOf s x x) (overOne x) (square s x) i (over-one-equals x) (square-equals s x (rw u at e))
 
 pub fraction-exact :
     (s mode : ℕ) (ws : List ℤ) (k : ℕ) (x : ℤ)
@@ -113,8 +108,8 @@ pub fraction-exact :
 fraction-exact s mode ws k x f m =
     let first = firstOf mode x (productOf s x x) in
     let rest = restOf mode x (productOf s x x) in
-    let First = firstOf mode (whole x) (square s x) in
-    let Rest = restOf mode (whole x) (square s x) in
+    let First = firstOf mode (overOne x) (square s x) in
+    let Rest = restOf mode (overOne x) (square s x) in
     let t = bAt ws k in
-    let b = both (squareExact s mode k x) (outwardExact s first rest ws k t) m in
-    outward-equals s first rest First Rest ws k t (whole t) (used-equals s mode k x (b .0)) (b .1) f (whole-equals t)
+    let b = both (squareExact (squareUsed mode k) s x) (outwardExact s first rest ws k t) m in
+    outward-equals s first rest First Rest ws k t (overOne t) (used-equals s mode k x (b .0)) (b .1) f (over-one-equals t)

@@ -1,25 +1,16 @@
 -- The mark as the code meets it: `before` marks what came before a step, the square before the first one. A mark joined to those before it may as well
 -- be joined to those after it, so that the code's order gives the definition's.
-use Rattle.whole.proofs.Basics.{_≡_, _∙_, refl, ap₂, Bool, true, false, cond, List, ℕ, suc, zero, _<_, arith, ltb, ℤ}
-use mathlib.Core.Bool.{_&&_}
-use lib.Bits.{bitOr}
-use Rattle.word.specs.Exact.{exactProduct, wholeAt}
-use Rattle.word.proofs.LooseLaws.{or-whole, whole-none}
+use Rattle.whole.proofs.Basics.{_≡_, refl, sym, Bool, true, cond, List, ℕ, suc, zero, _<_, arith, ltb, ℤ}
+use mathlib.Core.Bool.{_&&_, and-true, and-assoc}
+use Rattle.word.specs.Exact.{exactProduct, squareExact, wholeAt}
+use Rattle.word.proofs.LooseLaws.{whole-none, counted-mark}
 use Rattle.fraction.specs.Fraction.{bAt, aAfter, at, restOf, nextOf}
-use Rattle.fraction.specs.Exact.{stepExact, outwardExact, squareUsed, squareExact}
-
-and-true : (before : Bool) → before ≡ (before && true)
-and-true true = refl
-and-true false = refl
-
-and-assoc : (before a b : Bool) → ((before && a) && b) ≡ (before && (a && b))
-and-assoc true a b = refl
-and-assoc false a b = refl
+use Rattle.fraction.specs.Exact.{stepExact, outwardExact, squareUsed}
 
 -- ---- the walk: at depth 0, and one step, at j = i + 1
 pub exact-done : (before : Bool) (s : ℕ) (first rest : ℤ) (ws : List ℤ) (t : ℤ) → before ≡ (before && outwardExact s first rest ws 0 t)
 unfolding outwardExact
-exact-done before s first rest ws t = and-true before
+exact-done before s first rest ws t = sym (and-true before)
 
 pub exact-step :
     (before : Bool) (s : ℕ) (first rest : ℤ) (ws : List ℤ) (i : ℕ) (t : ℤ)
@@ -28,23 +19,15 @@ pub exact-step :
 unfolding outwardExact
 exact-step before s first rest ws i t = and-assoc before _ _
 
--- two numbers joined, by the marks that they tell
-pub or-marks : (s a b : ℕ) (x y : Bool) → wholeAt s a ≡ x → wholeAt s b ≡ y → wholeAt s (bitOr a b) ≡ (x && y)
-or-marks s a b x y f g = or-whole s a b ∙ ap₂ _&&_ f g
-
 -- ---- the square: where it is used, and that what counts of it tells its mark
 pub used-in-two : (mode k : ℕ) → 1 < mode → squareUsed mode k ≡ ltb 1 k
 used-in-two zero k h = absurd (omega arith)
 used-in-two (suc zero) k h = absurd (omega arith)
 used-in-two (suc (suc m)) k h = refl
 
-counted-mark : (used : Bool) (s loose : ℕ) (e : Bool) → wholeAt s loose ≡ e → wholeAt s (cond used loose 0) ≡ cond used e true
-counted-mark true s loose e f = f
-counted-mark false s loose e f = whole-none s
-
 pub square-mark :
     (s mode k loose : ℕ) (x : ℤ)
     → wholeAt s loose ≡ restOf mode true (exactProduct s x x)
-    → wholeAt s (cond (squareUsed mode k) loose 0) ≡ squareExact s mode k x
+    → wholeAt s (cond (squareUsed mode k) loose 0) ≡ squareExact (squareUsed mode k) s x
 square-mark s zero k loose x e = whole-none s
 square-mark s (suc m) k loose x e = counted-mark (squareUsed (suc m) k) s loose (exactProduct s x x) e

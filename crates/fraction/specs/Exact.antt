@@ -1,6 +1,6 @@
 -- The mark of a fraction's answer, exact where nothing that it uses was rounded, and the fraction's exact value.
 use mathlib.Core.Path.{_≡_, refl}
-use mathlib.Core.Bool.{Bool, true, false, cond, _&&_}
+use mathlib.Core.Bool.{Bool, true, false, _&&_}
 use mathlib.Core.List.{List, [], _∷_}
 use Prim.Native.Nat.{ℕ, zero, suc}
 use native.Mathlib.Omega.{arith}
@@ -8,7 +8,7 @@ use lib.Dec.{ltb, lit≤}
 use lib.IntN.{ℤ, pos, negsuc, _+ℤ_, _*ℤ_}
 use Rattle.word.specs.Rounded.{rounded}
 use Rattle.word.specs.Words.{NotZero, unit, productOf}
-use Rattle.word.specs.Exact.{exactProduct, exactQuotient}
+use Rattle.word.specs.Exact.{exactProduct, exactQuotient, squareExact}
 use Rattle.fraction.specs.Fraction.{bAt, aAfter, at, firstOf, restOf, nextOf}
 
 -- ---- the mark. One step: neither the product of a and v nor its quotient by t was rounded. A sum never is
@@ -29,12 +29,9 @@ squareUsed zero k = false
 squareUsed (suc zero) k = true
 squareUsed (suc (suc m)) k = ltb 1 k
 
-abbrev pub squareExact : ℕ → ℕ → ℕ → ℤ → Bool
-squareExact s mode k x = cond (squareUsed mode k) (exactProduct s x x) true
-
 abbrev pub fractionExact : ℕ → ℕ → List ℤ → ℕ → ℤ → Bool
 fractionExact s mode ws k x =
-    squareExact s mode k x
+    squareExact (squareUsed mode k) s x
     && outwardExact s (firstOf mode x (productOf s x x)) (restOf mode x (productOf s x x)) ws k (bAt ws k)
 
 -- ---- the exact value, in steps of 2^-s, as a fraction of whole numbers
@@ -43,8 +40,8 @@ pub record Ratio : Type 0 where
   pub bottom : ℤ
 
 -- x, and its square x·x / 2^s
-abbrev pub whole : ℤ → Ratio
-whole x = record { top = x; bottom = pos 1 }
+abbrev pub overOne : ℤ → Ratio
+overOne x = record { top = x; bottom = pos 1 }
 
 abbrev pub square : ℕ → ℤ → Ratio
 square s x = record { top = x *ℤ x; bottom = pos (unit s) }
@@ -58,7 +55,7 @@ outwardRatio first rest ws zero r = r
 outwardRatio first rest ws (suc i) r = outwardRatio first rest ws i (nextRatio (aAfter ws i) (bAt ws i) (at first rest i) r)
 
 abbrev pub fractionRatio : ℕ → ℕ → List ℤ → ℕ → ℤ → Ratio
-fractionRatio s mode ws k x = outwardRatio (firstOf mode (whole x) (square s x)) (restOf mode (whole x) (square s x)) ws k (whole (bAt ws k))
+fractionRatio s mode ws k x = outwardRatio (firstOf mode (overOne x) (square s x)) (restOf mode (overOne x) (square s x)) ws k (overOne (bAt ws k))
 
 -- z is top / bottom
 abbrev pub Equals : ℤ → Ratio → Type 0

@@ -1,5 +1,5 @@
 -- An even or odd answer that is marked exact is the exact value: of the polynomial at x², and of x times that. Where the square is exact, q·2^s is x·x, so
--- the polynomial's exact sum at q is the one at x·x with twice the places; with one coefficient no square is in it.
+-- the polynomial's exact sum at q is the one at x·x with twice the places; with one coefficient no square is in it. At 0 nothing is rounded.
 use Rattle.whole.proofs.Basics.{_≡_, _∙_, refl, sym, ap, ap₂, subst, Bool, true, false, cond, List, [], _∷_, ℕ, suc, _+_, _*_, _^_, arith, length, ltb, ℤ, pos, _+ℤ_, _*ℤ_, lt-ltb}
 use mathlib.Core.Bool.{_&&_}
 use native.Mathlib.Nat.{pow-zero, pow-suc}
@@ -7,7 +7,7 @@ use lib.Pow.{pow-add}
 use Rattle.whole.proofs.Diff.{v, n, _⊕_, _⊗_, same}
 use Rattle.whole.proofs.Ring.{ring, var, _:*_}
 use Rattle.word.specs.Words.{unit}
-use Rattle.word.specs.Exact.{exactProduct}
+use Rattle.word.specs.Exact.{exactProduct, squareExact}
 use Rattle.word.proofs.WordLaws.{product-zero}
 use Rattle.word.proofs.ExactLaws.{product-exact, exact-zero, exact-by-zero, both}
 use Rattle.polynomial.specs.Exact.{polynomialExact}
@@ -16,7 +16,7 @@ use Rattle.polynomial.proofs.ExactWalk.{exact-at-zero}
 use Rattle.polynomial.proofs.ExactAnswer.{exact-answer}
 use Rattle.polynomial.proofs.SumLaws.{unit-pow, exact-is}
 use Rattle.odd_even.specs.OddEven.{squareOf, evenOf, oddOf}
-use Rattle.odd_even.specs.Exact.{squareExact, evenExact, oddExact, evenValue, oddValue}
+use Rattle.odd_even.specs.Exact.{evenExact, oddExact, evenValue, oddValue}
 
 -- ---- from q to x·x, a power of 2^s for each coefficient behind the first
 first-term : (c : ℤ) (w : ℕ) → c *ℤ pos w *ℤ pos w ≡ c *ℤ pos (w * w)
@@ -55,14 +55,14 @@ at-the-square s c (d ∷ cs) q y f =
 even-value : (s : ℕ) (c : ℤ) (cs : List ℤ) (x : ℤ) → evenExact s (c ∷ cs) x ≡ true → evenOf s (c ∷ cs) x *ℤ pos (unit (s + s) ^ length cs) ≡ exact (s + s) (c ∷ cs) (x *ℤ x)
 even-value s c cs x t =
     let q = squareOf s x in
-    let b = both (squareExact s (length (c ∷ cs)) x) (polynomialExact s (c ∷ cs) q) t in
+    let b = both (squareExact (ltb 1 (length (c ∷ cs))) s x) (polynomialExact s (c ∷ cs) q) t in
     let w = unit s ^ length cs in
     ap (λ (k : ℕ). evenOf s (c ∷ cs) x *ℤ pos k) (sym (doubled s (length cs)))
     ∙ sym (first-term (evenOf s (c ∷ cs) x) w)
     ∙ ap (λ (z : ℤ). z *ℤ pos w) (exact-answer s c cs q (b .1))
     ∙ at s c cs x (b .0)
   where
-    at : (s : ℕ) (c : ℤ) (cs : List ℤ) (x : ℤ) → squareExact s (length (c ∷ cs)) x ≡ true → exact s (c ∷ cs) (squareOf s x) *ℤ pos (unit s ^ length cs) ≡ exact (s + s) (c ∷ cs) (x *ℤ x)
+    at : (s : ℕ) (c : ℤ) (cs : List ℤ) (x : ℤ) → squareExact (ltb 1 (length (c ∷ cs))) s x ≡ true → exact s (c ∷ cs) (squareOf s x) *ℤ pos (unit s ^ length cs) ≡ exact (s + s) (c ∷ cs) (x *ℤ x)
     at s c [] x e = alone s c (squareOf s x) (x *ℤ x)
     at s c (d ∷ cs) x e = at-the-square s c (d ∷ cs) (squareOf s x) (x *ℤ x) (product-exact s x x (rw (lt-ltb 1 (suc (suc (length cs))) (omega arith)) at e))
 

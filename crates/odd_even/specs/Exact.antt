@@ -1,24 +1,21 @@
 -- The marks of even and odd answers: exact where no product on the way was rounded, that of x with itself among them where the polynomial uses it.
 use mathlib.Core.Path.{_≡_, refl}
-use mathlib.Core.Bool.{Bool, true, false, _&&_, cond}
+use mathlib.Core.Bool.{Bool, true, false, _&&_}
 use mathlib.Core.List.{List, [], _∷_}
 use Prim.Native.Nat.{ℕ, _+_, _*_, _^_}
 use lib.Dec.{ltb}
 use lib.IntN.{ℤ, pos, negsuc, _*ℤ_, pow, one}
 use lib.ListN.{length}
 use Rattle.word.specs.Rounded.{rounded}
-use Rattle.word.specs.Exact.{exactProduct}
+use Rattle.word.specs.Exact.{exactProduct, squareExact}
 use Rattle.polynomial.specs.Polynomial.{horner}
 use Rattle.polynomial.specs.Exact.{polynomialExact}
 use Rattle.polynomial.specs.Distance.{sumBelowℤ, exactSum}
 use Rattle.odd_even.specs.OddEven.{squareOf, evenOf}
 
--- the square counts from two coefficients on: by the rule's shape, whatever the coefficients are. With one the polynomial is c0
-abbrev pub squareExact : ℕ → ℕ → ℤ → Bool
-squareExact s m x = cond (ltb 1 m) (exactProduct s x x) true
-
+-- the square is used from two coefficients on: by the rule's shape, whatever the coefficients are. With one the polynomial is c0
 abbrev pub evenExact : ℕ → List ℤ → ℤ → Bool
-evenExact s ws x = squareExact s (length ws) x && polynomialExact s ws (squareOf s x)
+evenExact s ws x = squareExact (ltb 1 (length ws)) s x && polynomialExact s ws (squareOf s x)
 
 abbrev pub oddExact : ℕ → List ℤ → ℤ → Bool
 oddExact s ws x = evenExact s ws x && exactProduct s (evenOf s ws x) x
@@ -48,12 +45,13 @@ odd-marks : (oddExact 24 bend (pos 8388608) ≡ true) × (oddExact 24 bend (negs
 unfolding polynomialExact horner rounded
 odd-marks = (refl, refl, refl, refl)
 
--- the walk's own product: half of a step's square, of 4096 steps
+-- the walk's own product: the square of 4,096 steps is one step, and half of that is rounded
 own-product : (evenExact 24 (pos 0 ∷ pos 8388608 ∷ []) (pos 4096) ≡ false) × (oddExact 24 (pos 0 ∷ pos 8388608 ∷ []) (pos 4096) ≡ false)
 unfolding polynomialExact horner rounded
 own-product = (refl, refl)
 
--- one step, whose square is rounded: one coefficient does not use it, two do, be the second 0 or both
+-- one step, whose square is rounded: one coefficient does not use it; odd's last product counts all the same, here half a step. Two use it, be the second 0
+-- or both
 square-unused : (evenExact 24 (pos 16777216 ∷ []) (pos 1) ≡ true) × (oddExact 24 (pos 16777216 ∷ []) (pos 1) ≡ true) × (oddExact 24 (pos 8388608 ∷ []) (pos 1) ≡ false)
 unfolding polynomialExact horner rounded
 square-unused = (refl, refl, refl)

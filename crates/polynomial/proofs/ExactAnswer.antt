@@ -41,12 +41,6 @@ exact-answer s c (c′ ∷ cs) x t =
     let b = both (polynomialExact s (c′ ∷ cs) x) (exactProduct s (horner s (c′ ∷ cs) x) x) t in
     step-exact s c x (horner s (c′ ∷ cs) x) (exact s (c′ ∷ cs) x) (length cs) (b .1) (exact-answer s c′ cs x (b .0))
 
-pub exact-answer-at : (s n : ℕ) (ws : List ℤ) (x : ℤ) → length ws ≡ suc n → polynomialExact s ws x ≡ true → horner s ws x *ℤ pos (unit s ^ n) ≡ exact s ws x
-exact-answer-at s n [] x e t = absurd (omega arith)
-exact-answer-at s n (c ∷ cs) x e t =
-    let f : length cs ≡ n = omega arith in
-    subst (λ (k : ℕ). horner s (c ∷ cs) x *ℤ pos (unit s ^ k) ≡ exact s (c ∷ cs) x) f (exact-answer s c cs x t)
-
 -- the same with the sum written out
 pub exact-answer-written-out : (s : ℕ) (ws : List ℤ) (m : ℕ) (x : ℤ) → length ws ≡ suc m → polynomialExact s ws x ≡ true → horner s ws x *ℤ pos (2 ^ (s * m)) ≡ exactSum s ws m x
 exact-answer-written-out s [] m x e t = absurd (omega arith)

@@ -24,8 +24,8 @@ nothing-rounded :
 unfolding polynomialExact horner rounded
 nothing-rounded = (refl, refl, refl)
 
--- one product is rounded: the last, where a half of two steps was exact; the first, half a step, which is rounded to one, and one times a half step more
--- is rounded again; the first alone, where the half step rounded up makes up for c1
+-- one product is rounded: the last, where half of two steps was exact; the only one, half a step; the first, half a step, where the next is exact, since
+-- the step that it is rounded to makes up for c1
 one-rounded :
     (polynomialExact 24 parabola (pos 2) ≡ false)
     × (polynomialExact 24 (pos 0 ∷ pos 8388608 ∷ []) (pos 1) ≡ false)
@@ -33,7 +33,7 @@ one-rounded :
 unfolding polynomialExact horner rounded
 one-rounded = (refl, refl, refl)
 
--- a step times one: at 16 places one is another, and at 28
+-- a step times 2^16, which is one at 16 places and less at 24, and times 2^24, which is less at 28
 at-other-places :
     (polynomialExact 16 (pos 0 ∷ pos 1 ∷ []) (pos 65536) ≡ true)
     × (polynomialExact 24 (pos 0 ∷ pos 1 ∷ []) (pos 65536) ≡ false)

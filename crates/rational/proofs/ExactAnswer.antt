@@ -1,10 +1,12 @@
 -- A rational's answer a that is marked exact is 2^s·N/D, for the exact polynomial values N and D: a·D = 2^s·N, both times 2^(s·n)·2^(s·m) for n + 1 over
--- m + 1 coefficients. Both polynomials are exact, and so is the quotient of their words.
-use Rattle.whole.proofs.Basics.{_≡_, _∙_, sym, ap, true, List, [], _∷_, ℕ, suc, _*_, _^_, length, ℤ, pos, _*ℤ_}
+-- m + 1 coefficients, and D is not 0. Both polynomials are exact, and so is the quotient of their words.
+use Rattle.whole.proofs.Basics.{_≡_, _∙_, sym, ap, subst, true, List, [], _∷_, ℕ, suc, _*_, _^_, length, ℤ, pos, _*ℤ_}
 use mathlib.Core.Bool.{_&&_}
+use lib.Pow.{pow-pos}
 use Rattle.whole.proofs.Ring.{ring, var, _:*_}
 use Rattle.word.specs.Words.{NotZero, unit}
 use Rattle.word.specs.Exact.{exactQuotient}
+use Rattle.word.proofs.WordLaws.{not-zero-times}
 use Rattle.word.proofs.ExactLaws.{quotient-exact, both}
 use Rattle.polynomial.specs.Polynomial.{horner}
 use Rattle.polynomial.specs.Distance.{exactSum}
@@ -51,10 +53,14 @@ module _ (s n m : ℕ) (num den : List ℤ) (x : ℤ) (f : length num ≡ suc n)
       let c = both (polynomialExact s num x) (polynomialExact s den x) (b .0) in
       (c .0, c .1, b .1)
 
-  pub rational-exact : rationalOf s num den x *ℤ exactSum s den m x *ℤ pos (2 ^ (s * n)) ≡ pos (2 ^ s) *ℤ exactSum s num n x *ℤ pos (2 ^ (s * m))
-  rational-exact =
-      ratio-exact
-      (rationalOf s num den x) N D (exactSum s num n x) (exactSum s den m x) (unit s) (2 ^ (s * n)) (2 ^ (s * m))
-      (quotient-exact s N D apart (marks .2))
-      (exact-answer-written-out s num n x f (marks .0))
-      (exact-answer-written-out s den m x g (marks .1))
+  top : N *ℤ pos (2 ^ (s * n)) ≡ exactSum s num n x
+  top = exact-answer-written-out s num n x f (marks .0)
+
+  bottom : D *ℤ pos (2 ^ (s * m)) ≡ exactSum s den m x
+  bottom = exact-answer-written-out s den m x g (marks .1)
+
+  pub rational-exact : (rationalOf s num den x *ℤ exactSum s den m x *ℤ pos (2 ^ (s * n)) ≡ pos (2 ^ s) *ℤ exactSum s num n x *ℤ pos (2 ^ (s * m))) × NotZero (exactSum s den m x)
+  rational-exact = (
+    ratio-exact (rationalOf s num den x) N D (exactSum s num n x) (exactSum s den m x) (unit s) (2 ^ (s * n)) (2 ^ (s * m)) (quotient-exact s N D apart (marks .2)) top bottom,
+    subst NotZero bottom (not-zero-times D (pos (2 ^ (s * m))) apart (pow-pos (s * m))),
+  )

@@ -23,7 +23,8 @@ the-quotient : (rationalExact 24 top bottom (pos 0) ≡ true) × (rationalExact 
 unfolding polynomialExact horner rounded
 the-quotient = (refl, refl)
 
--- half a step of x over one, at one step, and one over one and half a step: the numerator's product alone is rounded, and the divisor's alone
+-- at one step: of x/2 over one the numerator's product alone is rounded, of nothing over 1 + x/2 the divisor's alone. At two steps both are exact: of x/2
+-- over 1 + x/2 the quotient alone is rounded, and of nothing over 1 + x/2 nothing is
 one-polynomial :
     (rationalExact 24 (pos 0 ∷ pos 8388608 ∷ []) (pos 16777216 ∷ []) (pos 1) ≡ false)
     × (rationalExact 24 (pos 0 ∷ []) (pos 16777216 ∷ pos 8388608 ∷ []) (pos 1) ≡ false)
@@ -32,7 +33,7 @@ one-polynomial :
 unfolding polynomialExact horner rounded
 one-polynomial = (refl, refl, refl, refl)
 
--- three by minus two: at 24 places, and at 16
+-- three steps by minus two at 24 places, and by minus a half at 16
 by-places : (rationalExact 24 (pos 3 ∷ []) (negsuc 33554431 ∷ []) (pos 0) ≡ false) × (rationalExact 16 (pos 3 ∷ []) (negsuc 32767 ∷ []) (pos 0) ≡ true)
 unfolding polynomialExact horner rounded
 by-places = (refl, refl)

@@ -1,4 +1,4 @@
--- The root of a word: the largest whole r with r² not above x·2^s.
+-- The root of a word: the largest whole r with r² not above x·2^s, and when it is exact.
 use mathlib.Core.Path.{_≡_, refl}
 use mathlib.Core.Bool.{Bool, true, false, cond}
 use Prim.Native.Nat.{ℕ, zero, suc, _+_, _*_, _/_, _<_, _≤_}

@@ -10,7 +10,7 @@ pub struct Rooted {
     pub steps: u16,
 }
 
-// The same of a word, and whether its square is the scaled word.
+// The same for a word, and whether the root's square is the scaled word.
 pub struct MarkedRoot {
     pub root: u32,
     pub steps: u16,

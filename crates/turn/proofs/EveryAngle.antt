@@ -1,5 +1,6 @@
 -- Promise: by a sheet that has the sine every angle is answered: its argument lies in the interval, and the answer is the formula's own there, or the
--- negation of that, and a word, with no steps, and exact where the argument and the formula's own are. Any other formula gives 15 to every angle. The reader's refusals come before both.
+-- negation of that, and a word, with no steps, and exact where the argument and the formula's own are. Any other
+-- formula gives 15 to every angle. The reader's refusals come before both.
 use Rattle.whole.proofs.Basics.{_≡_, _∙_, refl, sym, ap, Bool, _⊎_, inl, inr, List, ℕ, arith, ltb, ℤ, _≤ℤ_}
 use mathlib.Core.Bool.{_&&_}
 use Rattle.whole.proofs.Order.{≤ℤ-trans}
@@ -64,7 +65,7 @@ module _ (s : ℕ) (bytes : List ℕ) (n : ℕ) where
       pub argument-below : x ≤ℤ f .hi
       argument-below = ≤ℤ-trans (argument-high s (quarterOf a) (restOf a) (given-scale s bytes n (has .0)) (rest-most a)) (has .1 .high)
 
-      -- exact where the argument is, and the formula's answer at it
+      -- and its mark
       abbrev mark : Bool
       mark = exactOf s (f .shape) (wordsIn f) x
 

@@ -1,7 +1,7 @@
 -- Promise: a sine or cosine that is marked exact, by any sheet, for any number and angle: its argument is the angle's own part of a quarter, f / 2^30, and
 -- without its sign it is the formula's exact value there. A refusal has no mark; an answer's is that of the argument and that of the formula's own.
 use Rattle.whole.proofs.Basics.{_≡_, _∙_, sym, ap, subst, true, inl, inr, List, ℕ, _-_, _^_, ltb, ℤ, pos, _*ℤ_}
-use mathlib.Core.Bool.{true≢false}
+use mathlib.Core.Bool.{false≢true}
 use lib.Pow.{pow-pos}
 use Rattle.word.specs.Words.{withSign}
 use Rattle.word.proofs.SignLaws.{sign-twice}
@@ -23,7 +23,7 @@ module _ (s : ℕ) (bytes : List ℕ) (n : ℕ) where
   abbrev f : Formula
   f = formulaGiven s bytes n
 
-  -- the argument times the parts of a step is f, so that in ones it is f / 2^30
+  -- the argument times 2^(30 - s) is the folded angle, so that in ones it is that / 2^30
   abbrev pub OwnPart : ℕ → Type 0
   OwnPart a = argumentOf s a *ℤ pos (2 ^ (30 - s)) ≡ pos (foldedIn (quarterOf a) (restOf a))
 
@@ -45,8 +45,8 @@ module _ (s : ℕ) (bytes : List ℕ) (n : ℕ) where
   sine-exact a t = at (three-ways s bytes n a)
     where
       at : ThreeWays s bytes n (sineOf s bytes n a) → OwnPart a × OwnValue a (evaluationWord (sineOf s bytes n a))
-      at (inl (r, e, q)) = absurd (true≢false (sym t ∙ ap evaluationExact q))
-      at (inr (inl q)) = absurd (true≢false (sym t ∙ ap evaluationExact q))
+      at (inl (r, e, q)) = absurd (false≢true (sym (ap evaluationExact q) ∙ t))
+      at (inr (inl q)) = absurd (false≢true (sym (ap evaluationExact q) ∙ t))
       at (inr (inr (has, q))) = by-sine a has t
 
   pub cosine-exact : (a : ℕ) → evaluationExact (cosineOf s bytes n a) ≡ true → OwnPart (angleSum a quarterTurn) × OwnValue (angleSum a quarterTurn) (evaluationWord (cosineOf s bytes n a))

@@ -1,6 +1,6 @@
 -- Promise: half a turn more negates sine and cosine, half a turn minus an angle has the same sine, and the negated angle the negated sine and the same cosine,
--- on every sheet, refusals and marks too; sine of 0 is 0, exactly, and sine of a quarter turn, which is cosine of 0, the board's answer at one. Quarters 2 and 3 have the arguments of 0 and 1 and
--- the other sign; half a turn minus an angle folds to the same argument, but for 0 and half a turn, where an odd formula's answer is its own negation.
+-- on every sheet, refusals and marks too; sine of 0 is 0, marked exact, and sine of a quarter turn, which is cosine of 0, the board's answer at one.
+-- Quarters 2 and 3 have the arguments of 0 and 1 and the other sign; half a turn minus an angle folds to the same argument, but for 0 and half a turn, where an odd formula's answer is its own negation.
 use Rattle.whole.proofs.Basics.{_≡_, _∙_, refl, sym, ap, ap₂, Bool, true, false, cond, _⊎_, inl, inr, List, ℕ, _+_, _-_, _%_, _^_, _≤_, arith, eqb, ℤ, pos, negℤ}
 use native.Mathlib.Decide.{decLe}
 use lib.IntN.{negℤ-negℤ}

@@ -1,6 +1,6 @@
--- How `loose` tells a mark. Of two numbers joined by `or` the last digits are 0 exactly where both numbers' are; a number's lower word has its last 32; and twice a number, with the divisor
--- added to it, leaves that by twice the divisor exactly where the divisor divides the number.
-use Rattle.whole.proofs.Basics.{_≡_, _∙_, refl, sym, ap, ap₂, Bool, true, false, ℕ, suc, _+_, _-_, _*_, _/_, _%_, _^_, _≤_, _<_, arith, eqb, ℤ, pos, negsuc, negℤ, natAbs, _+ℤ_, eqb-true, eqb-false, eq-eqb, ne-eqb}
+-- How `loose` tells a mark. Of two numbers joined by `or` the last digits are 0 exactly where both numbers' are; a number's lower word has its last 32;
+-- and twice a number, with the divisor added to it, leaves the divisor by twice the divisor exactly where the divisor divides the number.
+use Rattle.whole.proofs.Basics.{_≡_, _∙_, refl, sym, ap, ap₂, Bool, true, false, cond, ℕ, suc, _+_, _-_, _*_, _/_, _%_, _^_, _≤_, _<_, arith, eqb, ℤ, pos, negsuc, negℤ, natAbs, _+ℤ_, eqb-true, eqb-false, eq-eqb, ne-eqb}
 use mathlib.Core.Bool.{_&&_}
 use native.Mathlib.Nat.{div-add-mod, mul-mod-right, add-mul-mod-self-left, mod-eq-of-lt, zero-mod}
 use lib.Bits.{bitAnd, bitOr, or-mod, or-add-and, and-le-l, and-le-r, and-mask}
@@ -23,6 +23,10 @@ or-zero a b = by (eqb a 0) (eqb b 0) refl refl
 pub or-whole : (s a b : ℕ) → wholeAt s (bitOr a b) ≡ (wholeAt s a && wholeAt s b)
 or-whole s a b = ap (λ (k : ℕ). eqb k 0) (or-mod a b s) ∙ or-zero (a % 2 ^ s) (b % 2 ^ s)
 
+-- by the marks that they tell
+pub or-marks : (s a b : ℕ) (x y : Bool) → wholeAt s a ≡ x → wholeAt s b ≡ y → wholeAt s (bitOr a b) ≡ (x && y)
+or-marks s a b x y f g = or-whole s a b ∙ ap₂ _&&_ f g
+
 -- ---- in the lower word of a number
 pub whole-lower : (s n : ℕ) → s ≤ 32 → wholeAt s (bitAnd n 0xffffffff) ≡ wholeAt s n
 whole-lower s n h =
@@ -37,6 +41,11 @@ pub whole-some : (s : ℕ) → 0 < s → wholeAt s 1 ≡ false
 whole-some s h =
     let f : 1 < 2 ^ s = pow-lt {i = 0} {j = s} h in
     ne-eqb (1 % 2 ^ s) 0 (λ e. omega (arith, mod-eq-of-lt f, e))
+
+-- what does not count is 0, and leaves the mark to the rest
+pub counted-mark : (used : Bool) (s loose : ℕ) (e : Bool) → wholeAt s loose ≡ e → wholeAt s (cond used loose 0) ≡ cond used e true
+counted-mark true s loose e f = f
+counted-mark false s loose e f = whole-none s
 
 -- ---- what a quotient leaves: of naturals, both ways
 left-exact : (a b : ℕ) → (a + a + b) % (b + b) ≡ b → a % b ≡ 0

@@ -13,6 +13,9 @@ use Rattle.word.proofs.SignLaws.{sign-abs, sign-odd, sign-mul, sign-mov
 pub unit-pos : (s : ℕ) → 0 < unit s
 unit-pos s = pow-pos s
 
+pub not-zero-times : (a b : ℤ) → NotZero a → NotZero b → NotZero (a *ℤ b)
+not-zero-times a b f g = omega (arith, abs-mul a b, mul-le-mul f g)
+
 -- 32 binary digits, scaled, are no more than 60
 pub scaled-most : (x s : ℕ) → x < 2 ^ 32 → s ≤ 28 → x * unit s < 2 ^ 60
 scaled-most x s f g =

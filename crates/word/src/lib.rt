@@ -76,7 +76,7 @@ fn rounded_with_sign(sign: bool, size: u64, cut: u32) -> i64
     with_sign(sign, ((size + half) >> (cut as u64)) as i64)
 }
 
-// n / 2^cut, rounded; here the last `cut` digits of `loose` tell. It is n's size.
+// n / 2^cut, rounded. `loose` is n's size, and here its last `cut` digits tell.
 pub fn rounded_shift(n: i64, cut: u32) -> Rounding
     requires { ⌜ (natAbs n < 2 ^ 62) × (0 < cut) × (cut < 63) ⌝ }
     ensures value { λ r. ⌜ r .value ≡ rounded n (2 ^ cut) ⌝ }
@@ -88,7 +88,8 @@ pub fn rounded_shift(n: i64, cut: u32) -> Rounding
     Rounding { value, loose }
 }
 
-// What a product's rounding drops are the last digits of its size, at most 28, and so all in its lower word.
+// Rounding drops the last s digits of the size. They are at most 28, so that the lower word has them all: one `or` joins it, where the whole
+// size takes two.
 pub fn product(a: i32, b: i32, s: u32) -> Rounding
     requires { ⌜ Factors s a b ⌝ }
     ensures value { λ r. ⌜ r .value ≡ productOf s a b ⌝ }

@@ -7,11 +7,12 @@ use Rattle.whole.proofs.Held.{back, held, arg, known, given}
 use Rattle.word.specs.Exact.{wholeAt}
 use Rattle.stored.specs.Words.{words}
 use Rattle.stored.proofs.WordsLaws.{length-words}
+use Rattle.word.proofs.LooseLaws.{or-marks}
 use Rattle.fraction.specs.Fraction.{bAt, aAfter, at, nextOf, outward as outward-of}
 use Rattle.fraction.specs.Exact.{stepExact}
 use Rattle.fraction.specs.Ready.{StepReady, OutwardReady}
 use Rattle.fraction.proofs.WalkLaws.{b-is, a-is, step-ready, next-ready}
-use Rattle.fraction.proofs.ExactWalk.{exact-done, exact-step, or-marks}
+use Rattle.fraction.proofs.ExactWalk.{exact-done, exact-step}
 use borrow.Fn.Kinds.{In}
 use borrow.Fn.PlainCycle.{Measures, is, falls, and}
 use Rattle.stored.proofs.get_word.Reads as get-word-reads

@@ -3,10 +3,10 @@ use Rattle.whole.proofs.Basics.{_≡_, _∙_, ap, List, ℕ, _+_, _<_, arith, l
 use Rattle.whole.proofs.Fit.{fit-abs}
 use Rattle.whole.proofs.Held.{back, held, arg, known, given}
 use Rattle.word.specs.Words.{productOf}
-use Rattle.word.specs.Exact.{wholeAt}
+use Rattle.word.specs.Exact.{squareExact, wholeAt}
 use Rattle.stored.specs.Words.{words}
 use Rattle.fraction.specs.Fraction.{bAt, firstOf, restOf}
-use Rattle.fraction.specs.Exact.{squareExact}
+use Rattle.fraction.specs.Exact.{squareUsed}
 use Rattle.fraction.specs.Ready.{OutwardReady}
 use Rattle.fraction.proofs.WalkLaws.{b-is, first-rest}
 use Rattle.fraction.proofs.ExactWalk.{square-mark}
@@ -60,7 +60,7 @@ module _ (c : tie.After-get-word) where
       let e = c .get-word .ensures ∙ b-is (start .args .b .now) (start .args .at) (k start + k start + 1) (k start) (omega arith) in
       held {w = w32} (known e (fit-abs (omega (arith, ready start .t-word))))
 
-  mark-is : wholeAt (S start) (c .before .counted .result) ≡ squareExact (S start) (mode start) (k start) (x start)
+  mark-is : wholeAt (S start) (c .before .counted .result) ≡ squareExact (squareUsed (mode start) (k start)) (S start) (x start)
   mark-is =
       let e = rw (x-is start) at (of-square .rest-of .ensures .1) in
       ap (wholeAt (S start)) (c .before .counted .ensures) ∙ square-mark (S start) (mode start) (k start) (of-square .rest-of .result .loose) (x start) e

@@ -1,4 +1,4 @@
--- `fraction::counted` meets its contract.
+-- `fraction::counted` meets its contract: mode by mode.
 use Rattle.whole.proofs.Basics.{_<_, arith, lt-ltb, le-ltb, needs}
 use Rattle.fraction.proofs.ExactWalk.{used-in-two}
 use Rattle.fraction.proofs.counted.Statement.{statement}

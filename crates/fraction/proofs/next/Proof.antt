@@ -4,8 +4,8 @@ use Rattle.whole.proofs.Fit.{fit-abs}
 use Rattle.whole.proofs.Held.{back, Held, fits-code, held, arg, known, cast, wider, plus}
 use Rattle.word.specs.Words.{Word, NotZero, productOf, quotientOf}
 use Rattle.word.specs.Exact.{exactProduct, exactQuotient, wholeAt}
+use Rattle.word.proofs.LooseLaws.{or-marks}
 use Rattle.fraction.specs.Fraction.{nextOf}
-use Rattle.fraction.proofs.ExactWalk.{or-marks}
 use Rattle.fraction.proofs.next.Statement.{statement}
 use Rattle.fraction.proofs.next.Tie as tie
 

@@ -1,4 +1,5 @@
--- `turn::sine_of` meets its contract: 15, or the answer at the argument, which lies in the interval, so that it is a word.
+-- `turn::sine_of` meets its contract: 15, or the answer at the argument, which lies in the interval, so that it is a word, with the
+-- argument's mark joined to it.
 use Rattle.whole.proofs.Basics.{_≡_, _∙_, sym, ap, ap₂, subst, ℤ, w32, SFits, now, needs}
 use Rattle.whole.proofs.Held.{held, arg}
 use Rattle.whole.proofs.Order.{≤ℤ-trans}

@@ -1,6 +1,6 @@
 -- `word::quotient` meets its contract: twice the scaled dividend, with the divisor added away from zero, is what `divided-is` speaks of, `left-half` and
 -- `half-left` say what the remainder tells, and nothing wraps.
-use Rattle.whole.proofs.Basics.{_≡_, _∙_, refl, sym, ap, ap₂, Bool, true, false, not, ℕ, _*_, _%_, _^_, _<_, arith, ℤ, pos, natAbs, _+ℤ_, _*ℤ_, w32, w64, toZ, ofZ, ltZ, needs}
+use Rattle.whole.proofs.Basics.{_≡_, _∙_, sym, ap, ap₂, Bool, not, ℕ, _*_, _%_, _^_, _<_, arith, ℤ, pos, natAbs, _+ℤ_, _*ℤ_, w32, w64, toZ, ofZ, ltZ, needs, eq-eqb, ne-eqb}
 use mathlib.Core.Bool.{Bool·beq}
 use lib.Pow.{pow-pos}
 use lib.Signed.{quotZ, remZ}
@@ -9,17 +9,12 @@ use Rattle.whole.proofs.Fit.{fit-abs}
 use Rattle.whole.proofs.Held.{back, Held, fits-code, held, held-nat, arg, known, wider, shl, plus, quot, remainder, divisor, quot-fits}
 use Rattle.whole.proofs.Order.{abs-add, abs-mul}
 use Rattle.word.specs.Words.{withSign}
-use Rattle.word.specs.Exact.{exactQuotient}
 use Rattle.word.proofs.RoundedLaws.{divided-is}
 use Rattle.word.proofs.LooseLaws.{whole-none, whole-some, left-half, half-left}
 use Rattle.word.proofs.SignLaws.{below-read, below-scaled, sign-abs, differ}
 use Rattle.word.proofs.WordLaws.{scaled-most}
 use Rattle.word.proofs.quotient.Statement.{statement}
 use Rattle.word.proofs.quotient.Tie as tie
-
-not-true : (b : Bool) → (b ≡ true → ⊥) → b ≡ false
-not-true true f = absurd (f refl)
-not-true false f = refl
 
 -- ---- what the locals hold
 module _ (c : tie.Start) where
@@ -120,7 +115,8 @@ returns-2 : tie.Need-returns-2
 returns-2 c =
     let b = c .before in
     let k = start b in
-    (held (held-quotient b) ∙ divided-is (m k) (d k), whole-some (k .args .s) (omega (arith, k .pre .0 .least)) ∙ sym (not-true (exactQuotient (k .args .s) (a k) (d k)) (λ e. c .if1 .left (left-same b (half-left (m k) (d k) (k .pre .3) e)))))
+    let left = natAbs (m k) % natAbs (d k) in
+    (held (held-quotient b) ∙ divided-is (m k) (d k), whole-some (k .args .s) (omega (arith, k .pre .0 .least)) ∙ sym (ne-eqb left 0 (λ e. c .if1 .left (left-same b (half-left (m k) (d k) (k .pre .3) (eq-eqb left 0 e))))))
 
 pub quotient-spec : {M : Type 1} → statement M
 quotient-spec =
