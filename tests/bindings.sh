@@ -84,7 +84,7 @@ call_rust() {
     right 'bindings/rust in the repository' cargo_in bindings/rust test
     right 'bindings/rust in a release' cargo_in "$release/bindings/rust" build
     if here pkg-config; then
-        local first=${version%%.*} rest=${version#*.}
+        local number first=${version%%.*} rest=${version#*.}
         for number in 1.3.0 "$first.$((${rest%%.*} - 1)).9" "$((first + 1)).9.0"; do
             known "$other" "$number"
             PKG_CONFIG_PATH="$other/lib/pkgconfig" wrong "bindings/rust with the library $number" 101 'run ./build-library' cargo_in "$alone/rust" build

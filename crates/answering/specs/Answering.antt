@@ -103,10 +103,10 @@ constant-ends :
 unfolding answerAt horner polynomialExact rounded padded
 constant-ends = (refl, refl, refl, refl)
 
--- half of x, over the same: half a step is rounded
+-- half of x, over the same: half a step is rounded; at 16 places the same word is 128
 abbrev half : Formula
 half = formula 1 (shape Polynomial 2 0 0) (negsuc 0) (pos 1) (padded (pos 0 ∷ pos 8388608 ∷ []))
 
-rounded-half : (answerAt 24 half (pos 1) ≡ answered (pos 1) 0 false) × (answerAt 24 half (pos 0) ≡ answered (pos 0) 0 true)
+rounded-half : (answerAt 24 half (pos 1) ≡ answered (pos 1) 0 false) × (answerAt 24 half (pos 0) ≡ answered (pos 0) 0 true) × (answerAt 16 half (pos 1) ≡ answered (pos 128) 0 true)
 unfolding answerAt horner polynomialExact rounded padded
-rounded-half = (refl, refl)
+rounded-half = (refl, refl, refl)

@@ -13,7 +13,7 @@ use Rattle.polynomial.specs.Distance.{sumBelowℤ, exactSum}
 use Rattle.polynomial.specs.Exact.{polynomialExact}
 use Rattle.odd_even.specs.Exact.{evenExact, oddExact, evenValue, oddValue}
 use Rattle.rational.specs.Exact.{rationalExact}
-use Rattle.fraction.specs.Exact.{outwardExact, fractionExact, fractionRatio, Equals}
+use Rattle.fraction.specs.Exact.{outwardExact, fractionExact, outwardRatio, fractionRatio, Equals}
 use Rattle.formula.specs.declared.Kind.{Kind}
 use Rattle.formula.specs.declared.Kind.the-variants.{Polynomial, Rational, Fraction, Root, Odd, Even, NoFormula}
 use Rattle.formula.specs.declared.Shape.{Shape}
@@ -49,11 +49,12 @@ ValueOf s h ws x a = ValueBy (h .kind) s (h .p) (h .q) (h .mode) ws x a
 as-many-words :
     (exactBy Polynomial 24 2 0 0 (pos 3 ∷ pos 8388608 ∷ []) (pos 1) ≡ false)
     × (exactBy Polynomial 24 1 0 0 (pos 3 ∷ pos 8388608 ∷ []) (pos 1) ≡ true)
+    × (exactBy Polynomial 24 2 0 0 (pos 0 ∷ pos 16777216 ∷ []) (pos 1) ≡ true)
     × (exactBy Rational 24 1 2 0 (pos 0 ∷ pos 3 ∷ pos 8388608 ∷ []) (pos 1) ≡ false)
     × (exactBy Rational 24 1 1 0 (pos 0 ∷ pos 3 ∷ pos 8388608 ∷ []) (pos 1) ≡ true)
     × (exactBy Rational 24 2 1 0 (pos 0 ∷ pos 8388608 ∷ pos 16777216 ∷ []) (pos 1) ≡ false)
 unfolding polynomialExact horner rounded
-as-many-words = (refl, refl, refl, refl, refl)
+as-many-words = (refl, refl, refl, refl, refl, refl)
 
 -- odd and even are not each other: half a step's odd product is rounded, and even has none; the square of one step counts from two coefficients on
 odd-and-even :
@@ -77,6 +78,21 @@ fractions = (refl, refl, refl)
 roots : (exactBy Root 24 0 0 0 [] (pos 37748736) ≡ true) × (exactBy Root 24 0 0 0 [] (pos 33554432) ≡ false) × (exactBy Root 17 0 0 0 [] (pos 1) ≡ false)
 unfolding rootIn
 roots = (refl, refl, refl)
+
+-- what is no formula rounds nothing
+no-formula : exactBy NoFormula 24 0 0 0 [] (pos 0) ≡ true
+no-formula = refl
+
+-- what a value is, said of words that are none: half a step; two steps by three; 2 + 3·7/5; the root of two steps; 9, and 27, for the square of 3
+what-is-said :
+    (ValueBy Polynomial 24 2 0 0 (pos 0 ∷ pos 8388608 ∷ []) (pos 1) (pos 1) ≡ (pos 16777216 ≡ pos 8388608))
+    × (ValueBy Rational 24 1 1 0 (pos 2 ∷ pos 3 ∷ []) (pos 0) (pos 5) ≡ ((pos 15 ≡ pos 33554432) × NotZero (pos 3)))
+    × (ValueBy Fraction 24 1 0 0 (pos 2 ∷ pos 3 ∷ pos 5 ∷ []) (pos 7) (pos 11) ≡ ((pos 55 ≡ pos 31) × NotZero (pos 5)))
+    × (ValueBy Root 24 0 0 0 [] (pos 2) (pos 3) ≡ (pos 9 ≡ pos 33554432))
+    × (ValueBy Even 24 2 0 0 (pos 0 ∷ pos 1 ∷ []) (pos 3) (pos 5) ≡ (pos (5 * 2 ^ 48) ≡ pos 9))
+    × (ValueBy Odd 24 2 0 0 (pos 0 ∷ pos 1 ∷ []) (pos 3) (pos 5) ≡ (pos (5 * 2 ^ 72) ≡ pos 27))
+unfolding sumBelowℤ outwardRatio pow one
+what-is-said = (refl, refl, refl, refl, refl, refl)
 
 -- one and a half times itself is two and a quarter; 1 + x/2 at a half is one and a quarter; with a word past the last
 some-values : ValueBy Root 24 0 0 0 [] (pos 37748736) (pos 25165824) × ValueBy Polynomial 24 2 0 0 (pos 16777216 ∷ pos 8388608 ∷ pos 1 ∷ []) (pos 8388608) (pos 20971520)

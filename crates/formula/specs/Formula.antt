@@ -169,7 +169,7 @@ unfolding rootIn
 root-numbers = (refl, refl, refl)
 
 -- a root tells its steps, 6 of four, 5 of two and none of 0, and of the word 1 at 16 places 4; the constant 3 tells none, and neither do the other kinds.
--- That of two is rounded, and so is half a step
+-- That of two is rounded, and so is half a step; at 16 places a step times one is exact
 steps-and-marks :
     (workedOf 24 (record { kind = Root; p = 0; q = 0; mode = 0 }) [] (pos 67108864) ≡ worked (pos 33554432) 6 true)
     × (workedOf 24 (record { kind = Root; p = 0; q = 0; mode = 0 }) [] (pos 33554432) ≡ worked (pos 23726566) 5 false)
@@ -177,8 +177,12 @@ steps-and-marks :
     × (workedOf 16 (record { kind = Root; p = 0; q = 0; mode = 0 }) [] (pos 1) ≡ worked (pos 256) 4 true)
     × (workedOf 24 (record { kind = Polynomial; p = 1; q = 0; mode = 0 }) (pos 3 ∷ []) (pos 67108864) ≡ worked (pos 3) 0 true)
     × (workedOf 24 (record { kind = Polynomial; p = 2; q = 0; mode = 0 }) (pos 3 ∷ pos 8388608 ∷ []) (pos 1) ≡ worked (pos 4) 0 false)
+    × (workedOf 16 (record { kind = Polynomial; p = 2; q = 0; mode = 0 }) (pos 0 ∷ pos 1 ∷ []) (pos 65536) ≡ worked (pos 1) 0 true)
 unfolding rootIn heronFrom digitsIn horner polynomialExact rounded
-steps-and-marks = (refl, refl, refl, refl, refl, refl)
+steps-and-marks = (refl, refl, refl, refl, refl, refl, refl)
+
+worked-fields : (worked (pos 3) 5 true ≡ record { word = pos 3; steps = 5; exact = true }) × (worked (pos 3) 5 false ≡ record { word = pos 3; steps = 5; exact = false })
+worked-fields = (refl, refl)
 
 no-steps :
     (stepsBy Polynomial 24 (pos 67108864) ≡ 0)
