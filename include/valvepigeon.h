@@ -29,8 +29,9 @@ extern "C" {
 #endif
 
 /* The version: 10000 times the first number, 100 times the second, and the third. The first moves when programs have to be
-   compiled anew (a struct or a function is not as it was), and the shared library's name moves with it; the second when something
-   is added, as a kind or a refusal, or an answer changes; the third when nothing of this is so.
+   compiled anew (a struct's size, the place of a field or a function is not as it was), and the shared library's name moves with it;
+   the second when something is added, as a kind, a refusal or a field in padding, or an answer changes; the third when nothing of
+   this is so.
 
    With 2.0.0 vp_worked and vp_shown have `steps`. vp_worked keeps its 24 bytes, and a program compiled with an older header still
    reads its word. But vp_shown grows from 24 bytes to 32, and is returned in memory that the caller lends: vp_evaluate_double

@@ -54,8 +54,8 @@ fn main() {
     }
     let Some(folder) = folders().into_iter().find(|folder| folder.join(ARCHIVE).is_file()) else {
         stop(&format!(
-            "{ARCHIVE} of version {FIRST_NUMBER}.{SECOND_NUMBER} is not found: run ./build-library in the repository, or set \
-             {VARIABLE} to the folder that holds it"
+            "{ARCHIVE} of version {FIRST_NUMBER}.{SECOND_NUMBER} or a later {FIRST_NUMBER}.x is not found: run ./build-library in the \
+             repository, or set {VARIABLE} to the folder that holds it"
         ))
     };
     println!("cargo:rerun-if-changed={}", folder.join(ARCHIVE).display());

@@ -40,7 +40,7 @@ The second double is no whole number of steps of 2^-24. It is rounded to one,
 and no answer to it is exact.
 
 An angle is a part of a turn, which has 2^32 of them. If it is no multiple of 64
-it is rounded, and its sine is not exact. The sine of an eighth is
+it is rounded, and neither its sine nor its cosine is exact. The sine of an eighth is
 
     >>> with open("sheets/sine-quarter.sheet", "rb") as file:
     ...     valvepigeon.sine(file.read(), 14, 2**32 // 8).word / 2**24
@@ -54,8 +54,8 @@ outside 0..65535, say) is an OverflowError; so add angles modulo 2^32.
 `pip install ./bindings/python` installs it. The shared library, which
 `./build-library` makes on x86-64 Linux, is looked for where the variable
 VALVEPIGEON_LIBRARY says, else beside this module, in the repository or release
-that it stands in, and where the system's loader looks. It has to be of a
-version from 2.1.0 on with that first number: an older one does not set `exact`.
+that it stands in, and where the system's loader looks. Its version
+has to be 2.1.0 or a later 2.x: an older library does not set `exact`.
 """
 
 from __future__ import annotations
@@ -264,8 +264,8 @@ def evaluate_double(sheet: ReadableBuffer, number: int,
 
 def sine(sheet: ReadableBuffer, number: int, angle: int) -> Worked:
     """The sine of an angle, 0 to 2^32 - 1, by an odd formula whose interval
-    holds 0 to one, as those for sin(pi x/2). It is exact at multiples of 64
-    alone. Refusals 1 to 9, then 11, 15."""
+    holds 0 to one, as those for sin(pi x/2). It can be exact at
+    multiples of 64 only. Refusals 1 to 9, then 11, 15."""
     return _worked("vp_sine", sheet, _u16(number), _u32(angle))
 
 

@@ -25,8 +25,8 @@
 //!
 //! The library is for x86-64 Linux. `./build-library` makes it in the repository, where a package that names this one by its
 //! path finds it: `valvepigeon = { path = ".../bindings/rust" }`. Elsewhere the variable `VALVEPIGEON_LIBRARY_DIR` names the
-//! folder of `libvalvepigeon.a`, or pkg-config knows it, by a version from 2.1 on with that first number: an older library does
-//! not set `exact`.
+//! folder of `libvalvepigeon.a`, or pkg-config knows it. Its version has to be 2.1.0 or a later 2.x: an older library does not
+//! set `exact`.
 
 #![warn(missing_docs)]
 
@@ -133,8 +133,8 @@ pub struct Shown {
     pub value: f64,
     /// How many steps Heron's rule took to a root, as [`Worked::steps`] says.
     pub steps: u16,
-    /// As [`Worked::exact`] says, but only where the argument is a whole number of steps of 2^-24, since any other is rounded; that
-    /// holds too where the answer does not use it.
+    /// As [`Worked::exact`] says, and only where the argument is a whole number of steps of 2^-24: any other is rounded, and then no
+    /// answer is exact, not even one that does not use it.
     pub exact: bool,
 }
 
