@@ -9,6 +9,7 @@ use lib.Signed.{remZ}
 use Rattle.whole.proofs.Diff.{v, n, _⊕_, ⊖_, same}
 use Rattle.word.specs.Words.{NotZero, belowZero, withSign}
 use Rattle.word.specs.Exact.{divides, wholeAt}
+use Rattle.word.proofs.RoundedLaws.{twice}
 use Rattle.word.proofs.SignLaws.{sign-abs, differ}
 
 -- ---- joined by `or`
@@ -60,9 +61,6 @@ exact-left a b h e =
     ap (λ (k : ℕ). k % (b + b)) f ∙ add-mul-mod-self-left b (b + b) (a / b) ∙ mod-eq-of-lt (omega arith)
 
 -- and with signs: what is left has the dividend's, and so has the half
-twice : (k : ℕ) → suc (suc (k + k)) ≡ suc k + suc k
-twice k = omega arith
-
 left-is : (m d : ℤ) → remZ (m +ℤ m +ℤ withSign (differ m d) d) (d +ℤ d) ≡ withSign (belowZero m) (pos ((natAbs m + natAbs m + natAbs d) % (natAbs d + natAbs d)))
 left-is (pos a) (pos b) = refl
 left-is (pos a) (negsuc b) = ap (λ (k : ℕ). pos ((a + a + suc b) % k)) (twice b)
@@ -74,21 +72,21 @@ left-is (negsuc a) (negsuc b) =
     let e : suc (suc (suc (a + a) + b)) ≡ suc a + suc a + suc b = omega arith in
     ap₂ (λ (k j : ℕ). negℤ (pos (k % j))) e (twice b)
 
-half-is : (m d : ℤ) → withSign (differ m d) d ≡ withSign (belowZero m) (pos (natAbs d))
-half-is (pos a) (pos b) = refl
-half-is (pos a) (negsuc b) = refl
-half-is (negsuc a) (pos b) = refl
-half-is (negsuc a) (negsuc b) = refl
+half-signed : (m d : ℤ) → withSign (differ m d) d ≡ withSign (belowZero m) (pos (natAbs d))
+half-signed (pos a) (pos b) = refl
+half-signed (pos a) (negsuc b) = refl
+half-signed (negsuc a) (pos b) = refl
+half-signed (negsuc a) (negsuc b) = refl
 
 pub left-half : (m d : ℤ) → remZ (m +ℤ m +ℤ withSign (differ m d) d) (d +ℤ d) ≡ withSign (differ m d) d → divides (natAbs d) m ≡ true
 left-half m d e =
     let t = belowZero m in
     let k = (natAbs m + natAbs m + natAbs d) % (natAbs d + natAbs d) in
-    let f : k ≡ natAbs d = sym (sign-abs t (pos k)) ∙ ap natAbs (sym (left-is m d) ∙ e ∙ half-is m d) ∙ sign-abs t (pos (natAbs d)) in
+    let f : k ≡ natAbs d = sym (sign-abs t (pos k)) ∙ ap natAbs (sym (left-is m d) ∙ e ∙ half-signed m d) ∙ sign-abs t (pos (natAbs d)) in
     eq-eqb (natAbs m % natAbs d) 0 (left-exact (natAbs m) (natAbs d) f)
 
 pub half-left : (m d : ℤ) → NotZero d → divides (natAbs d) m ≡ true → remZ (m +ℤ m +ℤ withSign (differ m d) d) (d +ℤ d) ≡ withSign (differ m d) d
 half-left m d h e =
     left-is m d
     ∙ ap (λ (k : ℕ). withSign (belowZero m) (pos k)) (exact-left (natAbs m) (natAbs d) h (eqb-true (natAbs m % natAbs d) 0 e))
-    ∙ sym (half-is m d)
+    ∙ sym (half-signed m d)

@@ -109,7 +109,7 @@ rounded-sign true a d = rounded-odd (pos a) d
 rounded-sign false a d = refl
 
 -- ---- for the function that divides 2·m by 2·d, and so rounds towards zero: d is added first, away from zero
-twice : (k : ℕ) → suc (suc (k + k)) ≡ suc k + suc k
+pub twice : (k : ℕ) → suc (suc (k + k)) ≡ suc k + suc k
 twice k = omega arith
 
 pub divided-is : (m d : ℤ) → quotZ (m +ℤ m +ℤ withSign (differ m d) d) (d +ℤ d) ≡ rounded (withSign (belowZero d) m) (natAbs d)
