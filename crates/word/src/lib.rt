@@ -1,4 +1,4 @@
-// The number on the board: products, quotients and their bounds, of words at s binary places.
+// The number on the board: products and quotients, whether they rounded, and their bounds, of words at s binary places.
 ghost use mathlib.Core.Path.{_≡_};
 ghost use Prim.Native.Nat.{_*_, _<_, _≤_, _^_};
 ghost use lib.IntN.{natAbs, pos};
@@ -8,8 +8,8 @@ ghost use Rattle.word.specs.Exact.{divides, exactProduct, exactQuotient,
 
 pub mod multiply;
 
-// A product or a quotient, rounded to a whole number. The last s binary digits of `loose` are 0 exactly where nothing was rounded off; a
-// walk joins the `loose` of its operations by `or`, and looks at the digits once, at its end.
+// A product or a quotient, rounded to a whole number. The last s binary digits of `loose` are 0 exactly where nothing was rounded off. A
+// walk joins the `loose` of its operations by `or`; the digits are looked at once, when the answer is done.
 pub struct Rounding {
     pub value: i64,
     pub loose: u64,
