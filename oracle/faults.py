@@ -8,7 +8,7 @@ from itertools import combinations
 from struct import unpack_from
 
 from formulas import FRACTION, POLYNOMIAL, POLYNOMIALS, RATIONAL, SHAPES
-from makers import with_field
+from makers import framed, records_of, with_field
 from number import M, NO_WORD
 from sheet import END, START
 
@@ -175,3 +175,13 @@ def run_faults(kind, p):
 def formula_faults(kind, p):
     """Faults at a formula record of a sheet."""
     return [(9, after_the_end), (4, one_too_many)] + run_faults(kind, p)
+
+
+def each_fault(formulas):
+    """A sheet of these formulas for each fault at each record."""
+    records = framed(records_of(formulas))
+    tables = [START_FAULTS, *(formula_faults(formula.kind, formula.p)
+                              for formula in formulas), END_FAULTS]
+    for at, table in enumerate(tables):
+        for fault in table:
+            yield spoilt(records, (at, [fault]))

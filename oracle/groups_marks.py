@@ -3,7 +3,7 @@
 from by_hand import (
     ANY_ROOT, ARGUMENT, COSINE_MARKS, DOUBLE_MARKS, MARKS, SINE_MARKS, WIDEST)
 from door import pattern_of
-from faults import END_FAULTS, START_FAULTS, formula_faults, spoilt
+from faults import each_fault
 from formulas import EVEN, FRACTION, ODD, POLYNOMIAL, RATIONAL, ROOT, SHAPES
 from groups_halves import RESTS
 from groups_numbers import (
@@ -11,10 +11,10 @@ from groups_numbers import (
 from groups_roots import ANY_ROOT_SHEET, about, both
 from makers import (
     KINDS_AND_MODES, MODES, SQUARES_LESS_ONE, about_its_turn, few_places,
-    framed, good_formulas, leaving, marked_argument, marked_formula,
+    good_formulas, leaving, marked_argument, marked_formula,
     marked_quarter_formula, over_its_product, over_itself, plain_formula,
-    quarter_formula, records_of, roundings, sheet_of, signed, size,
-    word_of_digits, word_of_places)
+    quarter_formula, roundings, sheet_of, signed, size, word_of_digits,
+    word_of_places)
 from number import M, NO_WORD, ONE
 from questions import ask_cosine, ask_double, ask_evaluate, ask_sine
 from turn import HALF_TURN, QUARTER, wrapped
@@ -73,17 +73,22 @@ def none_rounded(rng):
             yield from at_its_ends(exact_formula(rng, kind, mode, p, q))
 
 
+def each_in_turn(rng, forms, least, most, plan, more=0):
+    """What is rounded is planned about each product and quotient in turn."""
+    for kind, mode in forms:
+        for p, q in counts(rng, kind, least, most):
+            count = roundings(kind, p, q)
+            for i in range(count + more):
+                yield from at_its_ends(marked_formula(
+                    rng, kind, mode, p, q, False, plan(i, count)))
+
+
 def one_rounded(rng):
     """One product or quotient is rounded, each in turn: the first, those in
     the middle, the last; and then none. More of the rationals, which have two
     walks."""
-    for kind, mode in (*FORMS, *[(RATIONAL, 0)] * 2):
-        for p, q in counts(rng, kind, 1, 4):
-            count = roundings(kind, p, q)
-            for i in range(count + 1):
-                formula = marked_formula(rng, kind, mode, p, q, False,
-                                         alone(i, count))
-                yield from at_its_ends(formula)
+    forms = *FORMS, *[(RATIONAL, 0)] * 2
+    return each_in_turn(rng, forms, 1, 4, alone, more=1)
 
 
 def one_of_many_rounded(rng):
@@ -99,13 +104,7 @@ def one_of_many_rounded(rng):
 
 def all_but_one_rounded(rng):
     """Every product and quotient is rounded but one, each in turn."""
-    for kind, mode in FORMS:
-        for p, q in counts(rng, kind, 2, 3):
-            count = roundings(kind, p, q)
-            for i in range(count):
-                formula = marked_formula(rng, kind, mode, p, q, False,
-                                         all_but(i, count))
-                yield from at_its_ends(formula)
+    return each_in_turn(rng, FORMS, 2, 3, all_but)
 
 
 def any_rounded(rng):
@@ -431,14 +430,9 @@ def faults_under_marks(rng):
     formulas = [rational((0, ONE), (ONE, 0), 0, ONE)._replace(number=10),
                 quarter_formula(rng, ODD, 20, 1),
                 ANY_ROOT._replace(number=30)]
-    records = framed(records_of(formulas))
-    tables = [START_FAULTS, *(formula_faults(formula.kind, formula.p)
-                              for formula in formulas), END_FAULTS]
-    for at, table in enumerate(tables):
-        for fault in table:
-            sheet = spoilt(records, (at, [fault]))
-            yield rng.choice([*both(sheet, rng.choice((10, 30)), ONE)])
-            yield rng.choice((ask_sine, ask_cosine))(sheet, 20, 0)
+    for sheet in each_fault(formulas):
+        yield rng.choice([*both(sheet, rng.choice((10, 30)), ONE)])
+        yield rng.choice((ask_sine, ask_cosine))(sheet, 20, 0)
 
 
 GROUPS = (

@@ -3,13 +3,13 @@ M-103)."""
 
 from by_hand import ANY_ROOT, ROOTS
 from door import pattern_of
-from faults import END_FAULTS, START_FAULTS, formula_faults, spoilt
+from faults import each_fault
 from formulas import EVEN, FRACTION, ODD, POLYNOMIAL, RATIONAL, ROOT
 from groups_numbers import INFINITY, MINUS_ZERO, both_signs
 from makers import (
     FIRST_AND_LAST, SEVEN_STEPS, SQUARES_LESS_ONE, arguments, below_square,
-    change_of_steps, framed, good_formula, good_formulas, quarter_formula,
-    records_of, sheet_of, size, word_of_digits)
+    change_of_steps, good_formula, good_formulas, quarter_formula, sheet_of,
+    size, word_of_digits)
 from number import M, NO_WORD, ONE
 from questions import (
     ask_cosine, ask_double, ask_evaluate, ask_interval, ask_sine)
@@ -179,13 +179,8 @@ def faults_about_roots(rng):
     formulas = [good_formula(rng, RATIONAL, 10, p=2, q=2),
                 ANY_ROOT._replace(number=20),
                 good_formula(rng, ODD, 30, p=3)]
-    records = framed(records_of(formulas))
-    tables = [START_FAULTS, *(formula_faults(formula.kind, formula.p)
-                              for formula in formulas), END_FAULTS]
-    for at, table in enumerate(tables):
-        for fault in table:
-            sheet = spoilt(records, (at, [fault]))
-            yield from both(sheet, 20, word_of_digits(rng, 31))
+    for sheet in each_fault(formulas):
+        yield from both(sheet, 20, word_of_digits(rng, 31))
 
 
 # Where no steps are taken.

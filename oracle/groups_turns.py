@@ -1,13 +1,13 @@
 """Groups of vectors aimed at sine and cosine (request M-102)."""
 
 from by_hand import ARGUMENT, COSINES, FIT, SERIES, SINES, UNFIT
-from faults import END_FAULTS, START_FAULTS, formula_faults, spoilt
+from faults import each_fault
 from formulas import (
     EVEN, FRACTION, ODD, POLYNOMIAL, POLYNOMIALS, RATIONAL, ROOT)
 from makers import (
-    EDGE_ANGLES, ODD_FORMS, angle_in, formula_of_form, framed,
-    full_quarter_formula, good_formula, good_formulas, largest,
-    quarter_formula, records_of, sheet_of, tied_angle_in, tied_quarter_formula)
+    EDGE_ANGLES, ODD_FORMS, angle_in, formula_of_form, full_quarter_formula,
+    good_formula, good_formulas, largest, quarter_formula, sheet_of,
+    tied_angle_in, tied_quarter_formula)
 from number import ONE
 from questions import ask_cosine, ask_sine
 from turn import HALF_TURN, QUARTER, wrapped
@@ -196,14 +196,9 @@ def faults_under_turns(rng):
     of unfit ones (15) and one not there (11): the sheet's refusal is first."""
     formulas = [good_formula(rng, ROOT, 10), quarter_formula(rng, ODD, 20, 3),
                 good_formula(rng, RATIONAL, 30, p=2, q=2)]
-    records = framed(records_of(formulas))
-    tables = [START_FAULTS, *(formula_faults(formula.kind, formula.p)
-                              for formula in formulas), END_FAULTS]
-    for at, table in enumerate(tables):
-        for fault in table:
-            sheet = spoilt(records, (at, [fault]))
-            for number in (20, rng.choice((10, 30, 40))):
-                yield from both(sheet, number, any_angle(rng))
+    for sheet in each_fault(formulas):
+        for number in (20, rng.choice((10, 30, 40))):
+            yield from both(sheet, number, any_angle(rng))
 
 
 def sheets_to_damage(rng):
