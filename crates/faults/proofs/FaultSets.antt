@@ -6,12 +6,13 @@ use Rattle.stored.specs.Numbers.{number4}
 use Rattle.formula.specs.declared.Kind.{Kind}
 use Rattle.formula.specs.declared.Kind.the-variants.{Polynomial, Rational, Fraction, Root, Odd, Even, NoFormula}
 use Rattle.formula.specs.declared.Shape.{Shape}
+use Rattle.formula.specs.Blank.{blankOf}
 use Rattle.table.specs.declared.Field.{Field}
 use Rattle.table.specs.declared.Row.{Row}
 use Rattle.table.specs.Table.{lengthBy}
 use Rattle.layout.specs.Fields.{shapeOf}
 use Rattle.faults.specs.Guard.{orElse}
-use Rattle.faults.specs.Faults.{frameFault, outside, countFault, sizeFault, lengthFault, startFault, scaleFault, orderFault, endFault, wordFault, wordsFault, intervalFault, kindFault, ownFault}
+use Rattle.faults.specs.Faults.{frameFault, outside, countFault, sizeFault, lengthFault, startFault, scaleFault, orderFault, endFault, wordFault, wordsFault, intervalFault, kindFault, ownFault, blankFault}
 use Rattle.faults.specs.Refusals.{OneOf}
 
 -- ---- a list of numbers, by tests that are computed
@@ -122,3 +123,6 @@ module _ (l : List ℕ) where
     own-set r h lo hi =
         first _ _ (first _ _ (word-set lo) (first _ _ (word-set hi) (test (ltZ hi lo) six none)))
         (first _ _ (outside-set (r .mode) (h .mode) 6 six) (kind-set (r .kind) lo))
+
+  pub blank-set : Fault 14 → (h : Shape) (ws : List ℤ) → Fault (blankFault h ws)
+  blank-set fourteen h ws = test (blankOf h ws) fourteen none

@@ -1,4 +1,4 @@
--- Refusals 1, 2, 4, 5 and 6 by the parts of a record, as the paper's numbers; 0 where there is none. The binary places are s.
+-- Refusals 1, 2, 4, 5, 6 and 14 by the parts of a record, as the paper's numbers; 0 where there is none. The binary places are s.
 use Prim.Native.Nat.{ℕ, _-_}
 use mathlib.Core.Path.{_≡_, refl}
 use mathlib.Core.List.{List, [], _∷_}
@@ -12,6 +12,7 @@ use Rattle.stored.specs.Numbers.{number2, number4}
 use Rattle.formula.specs.declared.Kind.{Kind}
 use Rattle.formula.specs.declared.Kind.the-variants.{Polynomial, Rational, Fraction, Root, Odd, Even, NoFormula}
 use Rattle.formula.specs.declared.Shape.{Shape}
+use Rattle.formula.specs.Blank.{allZero, blankOf}
 use Rattle.table.specs.declared.Field.{Field}
 use Rattle.table.specs.declared.Row.{Row}
 use Rattle.table.specs.Table.{rows, firstRow, rowOf, piecesBy, lengthBy}
@@ -83,7 +84,11 @@ ownFault r h lo hi =
     (orElse (outside (r .mode) (h .mode) 6)
     (kindFault (r .kind) lo))
 
--- binary places outside 16..28
+-- ---- 14. A blank formula
+abbrev pub blankFault : Shape → List ℤ → ℕ
+blankFault h ws = cond (blankOf h ws) 14 0
+
+-- ---- the scale: binary places outside 16..28 (6)
 unfoldable pub scaleFault : ℕ → ℕ
 scaleFault s = cond (ltb s 16) 6 (cond (ltb 28 s) 6 0)
 
@@ -164,6 +169,11 @@ others-below-zero = (refl, refl, refl, refl, refl)
 modes : (ownFault (rowOf 0x0012) (shape Fraction 1 0 2) (pos 0) (pos 0) ≡ 0) × (ownFault (rowOf 0x0012) (shape Fraction 1 0 3) (pos 0) (pos 0) ≡ 6)
 unfolding rows firstRow rowOf outside intervalFault ownFault
 modes = (refl, refl)
+
+-- 0 + 0·x is blank, and 0 + x is not
+blanks : (blankFault (shape Polynomial 2 0 0) (pos 0 ∷ pos 0 ∷ []) ≡ 14) × (blankFault (shape Polynomial 2 0 0) (pos 0 ∷ pos 1 ∷ []) ≡ 0)
+unfolding allZero
+blanks = (refl, refl)
 
 -- 16 to 28 places
 places : (scaleFault 15 ≡ 6) × (scaleFault 16 ≡ 0) × (scaleFault 28 ≡ 0) × (scaleFault 29 ≡ 6)

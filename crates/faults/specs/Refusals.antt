@@ -12,7 +12,7 @@ OneOf (k ∷ ks) n = (n ≡ k) ⊎ OneOf ks n
 
 -- a record's, at its place in a sheet or a run; and a sheet's
 abbrev pub recordRefusals : List ℕ
-recordRefusals = 1 ∷ 2 ∷ 3 ∷ 4 ∷ 5 ∷ 6 ∷ 7 ∷ 8 ∷ []
+recordRefusals = 1 ∷ 2 ∷ 3 ∷ 4 ∷ 5 ∷ 6 ∷ 14 ∷ 7 ∷ 8 ∷ []
 
 abbrev pub sheetRefusals : List ℕ
 sheetRefusals = 9 ∷ recordRefusals

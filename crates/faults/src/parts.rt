@@ -1,6 +1,7 @@
 // The checks of a formula record's parts: its counts and length, its place among the others, its words, its interval and mode.
 ghost use mathlib.Core.Path.{_≡_};
 ghost use Rattle.stored.specs.Words.{words, Stretch};
+ghost use Rattle.formula.specs.Blank.{allZero};
 ghost use Rattle.table.specs.Rule.{Ruled};
 ghost use Rattle.faults.specs.Faults.{outside, countFault, sizeFault, orderFault, wordFault, wordsFault, intervalFault, kindFault, ownFault};
 use formula::Kind;
@@ -86,6 +87,21 @@ pub fn words_fault(b: &[u8], at: usize, m: usize) -> u8
         i += 1;
     }
     0
+}
+
+// Whether each of the m words from a place on is zero.
+pub fn all_zero(b: &[u8], at: usize, m: usize) -> bool
+    requires { ⌜ Stretch (now b) at m ⌝ }
+    ensures { λ r. ⌜ r ≡ allZero (words (now (b .entry)) at m) ⌝ }
+{
+    let mut i: usize = 0;
+    while i < m {
+        if stored::get_word(b, at + 4 * i) != 0 {
+            return false;
+        }
+        i += 1;
+    }
+    true
 }
 
 // That hi is a word follows: it is not below lo.

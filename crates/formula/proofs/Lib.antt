@@ -1,4 +1,4 @@
--- Laws of formulas. `StaysInRange`, `Distance`, `ExactAnswer`, `BothSides`, `FewSteps` and `CheckedByHand` hold promises.
+-- Laws of formulas. `StaysInRange`, `Distance`, `ExactAnswer`, `BothSides`, `FewSteps`, `BlankNought` and `CheckedByHand` hold promises.
 pub mod IntervalLaws
 pub mod SoundLaws
 pub mod StaysInRange
@@ -8,4 +8,6 @@ pub mod Distance
 pub mod ExactAnswer
 pub mod FewSteps
 pub mod BothSides
+pub mod BlankLaws
+pub mod BlankNought
 pub mod CheckedByHand

@@ -10,6 +10,7 @@ use Rattle.word.specs.Words.{unit}
 use Rattle.stored.specs.Numbers.{number2, number4}
 use Rattle.stored.specs.Words.{words}
 use Rattle.polynomial.specs.Polynomial.{boundOf}
+use Rattle.formula.specs.Blank.{allZero}
 use Rattle.table.specs.Table.{rows, firstRow, rowOf, piecesBy}
 use Rattle.layout.specs.Fields.{bytesAt, firstCount, fieldOf, shapeOf, formulaOf}
 use Rattle.faults.specs.Faults.{frameFault, outside, countFault, sizeFault, lengthFault, startFault, scaleFault, orderFault, endFault, ownFault, intervalFault, wordsFault}
@@ -84,5 +85,16 @@ oddAndEvenSheet =
     ∷ []
 
 odd-and-even-listed : listing oddAndEvenSheet ≡ text "formulas 2\n1 odd -1 1\n2 even -1 1\n"
-unfolding boundOf roundedUp listing countLine refusalLine linesFrom lineOf digitsBy decimal formulaCount walkOf walkFrom faultAt foundBy ending frameFault bytesAt recordFault lengthFault sizeFault countFault outside startFault scaleFault orderFault endFault valueFault ownFault intervalFault wordsFault number2 number4 words rows firstRow rowOf firstCount fieldOf shapeOf piecesBy formulaOf
+unfolding allZero boundOf roundedUp listing countLine refusalLine linesFrom lineOf digitsBy decimal formulaCount walkOf walkFrom faultAt foundBy ending frameFault bytesAt recordFault lengthFault sizeFault countFault outside startFault scaleFault orderFault endFault valueFault ownFault intervalFault wordsFault number2 number4 words rows firstRow rowOf firstCount fieldOf shapeOf piecesBy formulaOf
 odd-and-even-listed = refl
+
+-- the paper's root with zeros in a polynomial's place behind it: what four hundred boards were loaded with
+abbrev blankSheet : List ℕ
+blankSheet =
+    8 ∷ 0 ∷ 0 ∷ 0 ∷ 1 ∷ 0 ∷ 2 ∷ 0
+    ∷ 0x10 ∷ 0 ∷ 0 ∷ 0 ∷ 0x13 ∷ 0 ∷ 1 ∷ 0 ∷ 0 ∷ 0 ∷ 0 ∷ 0 ∷ 0 ∷ 0 ∷ 0 ∷ 2
+    ∷ 24 ∷ 0 ∷ 0 ∷ 0 ∷ 0x10 ∷ 0 ∷ 2 ∷ 0 ∷ 0 ∷ 0 ∷ 0 ∷ 0 ∷ 0 ∷ 0 ∷ 0 ∷ 1 ∷ (replicate 8 0 ++ (8 ∷ 0 ∷ 0 ∷ 0 ∷ 0xff ∷ 0xff ∷ 2 ∷ 0 ∷ []))
+
+blank-listed : listing blankSheet ≡ text "refused 14 at 24\n"
+unfolding allZero listing refusalLine digitsBy decimal formulaCount walkOf walkFrom faultAt foundBy frameFault bytesAt recordFault lengthFault sizeFault countFault outside startFault scaleFault orderFault valueFault ownFault intervalFault wordsFault number2 number4 words rows firstRow rowOf firstCount fieldOf shapeOf piecesBy
+blank-listed = refl

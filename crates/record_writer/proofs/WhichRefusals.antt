@@ -56,7 +56,7 @@ of-formula s r f room =
     let h = f .shape in
     let n = lengthBy r (h .p) (h .q) in
     guarded recordWriterRefusals (countFault r (h .p) (h .q)) _ (count-set recordWriterRefusals (is 2 tt) r (h .p) (h .q))
-    (guarded recordWriterRefusals (valueFault s r h (f .lo) (f .hi) (wordsIn f)) _ (value-set recordWriterRefusals (is 6 tt) (is 7 tt) (is 8 tt) s r h (f .lo) (f .hi) (wordsIn f))
+    (guarded recordWriterRefusals (valueFault s r h (f .lo) (f .hi) (wordsIn f)) _ (value-set recordWriterRefusals (is 6 tt) (is 14 tt) (is 7 tt) (is 8 tt) s r h (f .lo) (f .hi) (wordsIn f))
     (in-room recordWriterRefusals (one-of recordWriterRefusals 12 tt) (ltb room n) n))
 
 pub record-refusals : (s : ℕ) (f : Formula) (room : ℕ) → ((n : ℕ) × (recordWriting s f room ≡ Written n)) ⊎ OneOf recordWriterRefusals (writingNumber (recordWriting s f room))

@@ -12,6 +12,7 @@ use Rattle.stored.specs.Numbers.{bytes2, bytes4}
 use Rattle.polynomial.specs.Polynomial.{bound, boundOf}
 use Rattle.formula.specs.declared.Kind.the-variants.{Polynomial, Rational, Root, NoFormula}
 use Rattle.formula.specs.declared.Formula.{Formula}
+use Rattle.formula.specs.Blank.{allZero}
 use Rattle.table.specs.declared.Row.{Row}
 use Rattle.table.specs.Table.{rows, firstRow, rowOf, piecesBy, lengthBy}
 use Rattle.table.specs.Codes.{codeFor}
@@ -29,7 +30,7 @@ use Rattle.record_writer.specs.declared.answers.Writing.the-variants.{Wr
 unfoldable pub roomWriting : ℕ → ℕ → Writing
 roomWriting n room = cond (ltb room n) (refusedBy 12) (Written n)
 
--- 2 for a count outside its range; 6; 7 or 8
+-- 2 for a count outside its range; 6; 14; 7 or 8
 unfoldable pub plainWriting : ℕ → Row → Formula → ℕ → Writing
 plainWriting s r f room =
     guard (countFault r (f .shape .p) (f .shape .q)) refusedBy
@@ -45,7 +46,7 @@ recordWriting s f room =
 
 -- the refusals that it can give
 abbrev pub recordWriterRefusals : List ℕ
-recordWriterRefusals = 3 ∷ 2 ∷ 6 ∷ 7 ∷ 8 ∷ 12 ∷ []
+recordWriterRefusals = 3 ∷ 2 ∷ 6 ∷ 14 ∷ 7 ∷ 8 ∷ 12 ∷ []
 
 abbrev pub bytesOf : Formula → List ℕ
 bytesOf f = recordBytes (rowBy f) (plain f)
@@ -87,28 +88,28 @@ root-places :
 unfolding rows firstRow rowOf codeFor piecesBy padded kept plainShape plainBy outside countFault intervalFault wordsFault ownFault valueFault scaleFault roomWriting plainWriting recordWriting
 root-places = (refl, refl, refl, refl)
 
--- a polynomial with so many coefficients, all of them 0
-abbrev zeros : ℕ → Formula
-zeros n = formula 1 (shape Polynomial n 0 0) (pos 0) (pos 0) (replicate 32 (pos 0))
+-- a polynomial with so many coefficients, all of them 1 step
+abbrev steps : ℕ → Formula
+steps n = formula 1 (shape Polynomial n 0 0) (pos 0) (pos 0) (replicate 32 (pos 1))
 
 -- 20 bytes are put together for one, 80 for 16, none for 0 or 17; what stands behind a record stays
 sizes :
-    (putSize (zeros 0) ≡ 0)
-    × (putSize (zeros 1) ≡ 20)
-    × (putSize (zeros 16) ≡ 80)
-    × (putSize (zeros 17) ≡ 0)
-    × (putInto (zeros 17) (7 ∷ []) ≡ 7 ∷ [])
+    (putSize (steps 0) ≡ 0)
+    × (putSize (steps 1) ≡ 20)
+    × (putSize (steps 16) ≡ 80)
+    × (putSize (steps 17) ≡ 0)
+    × (putInto (steps 17) (7 ∷ []) ≡ 7 ∷ [])
     × (putInto exampleRoot (replicate 17 9) ≡ 0x10 ∷ 0 ∷ 0 ∷ 0 ∷ 0x13 ∷ 0 ∷ 1 ∷ 0 ∷ 0 ∷ 0 ∷ 0 ∷ 0 ∷ 0 ∷ 0 ∷ 0 ∷ 2 ∷ 9 ∷ [])
 unfolding rows firstRow rowOf codeFor bytes2 bytes4 piecesBy padded kept plainShape plainBy outside countFault frontBytes headBytes fieldBytes fieldsBytes wordBytes recordBytes
 sizes = (refl, refl, refl, refl, refl, refl)
 
 -- 1 to 16 coefficients
 counts :
-    (recordWriting 24 (zeros 0) 120 ≡ refusedBy 2)
-    × (recordWriting 24 (zeros 1) 20 ≡ Written 20)
-    × (recordWriting 24 (zeros 16) 80 ≡ Written 80)
-    × (recordWriting 24 (zeros 17) 120 ≡ refusedBy 2)
-unfolding roundedUp boundOf rows firstRow rowOf codeFor piecesBy padded kept plainShape plainBy outside countFault intervalFault wordsFault ownFault valueFault scaleFault roomWriting plainWriting recordWriting
+    (recordWriting 24 (steps 0) 120 ≡ refusedBy 2)
+    × (recordWriting 24 (steps 1) 20 ≡ Written 20)
+    × (recordWriting 24 (steps 16) 80 ≡ Written 80)
+    × (recordWriting 24 (steps 17) 120 ≡ refusedBy 2)
+unfolding roundedUp boundOf rows firstRow rowOf codeFor piecesBy padded kept plainShape plainBy outside countFault intervalFault wordsFault allZero ownFault valueFault scaleFault roomWriting plainWriting recordWriting
 counts = (refl, refl, refl, refl)
 
 -- no formula: 3 comes before 6 (the places, and lo above hi) and 12
@@ -117,7 +118,7 @@ unfolding rows firstRow rowOf codeFor recordWriting
 no-formula = refl
 
 -- a count of 0 at 15 places: 6 of the places comes before 2
-places-first : recordWriting 15 (zeros 0) 0 ≡ refusedBy 6
+places-first : recordWriting 15 (steps 0) 0 ≡ refusedBy 6
 unfolding rows firstRow rowOf codeFor scaleFault recordWriting
 places-first = refl
 
@@ -131,10 +132,23 @@ room-last :
     × (recordWriting 24 (refusedFirst 2 0 16777216) 0 ≡ refusedBy 7)
     × (recordWriting 24 (refusedFirst 1 0 16777216) 19 ≡ refusedBy 12)
     × (recordWriting 24 (refusedFirst 1 0 16777216) 20 ≡ Written 20)
-unfolding roundedUp boundOf rows firstRow rowOf codeFor piecesBy padded kept plainShape plainBy outside countFault intervalFault wordsFault ownFault valueFault scaleFault roomWriting plainWriting recordWriting
+unfolding roundedUp boundOf rows firstRow rowOf codeFor piecesBy padded kept plainShape plainBy outside countFault intervalFault wordsFault allZero ownFault valueFault scaleFault roomWriting plainWriting recordWriting
 room-last = (refl, refl, refl, refl, refl)
 
 -- one over 0, with no room at all: 8
 no-divisor : recordWriting 24 (formula 1 (shape Rational 1 1 0) (pos 0) (pos 0) (padded (pos 16777216 ∷ pos 0 ∷ []))) 0 ≡ refusedBy 8
-unfolding roundedUp bound boundOf rows firstRow rowOf codeFor piecesBy padded kept plainShape plainBy outside countFault intervalFault wordsFault ownFault valueFault scaleFault roomWriting plainWriting recordWriting
+unfolding roundedUp bound boundOf rows firstRow rowOf codeFor piecesBy padded kept plainShape plainBy outside countFault intervalFault wordsFault allZero ownFault valueFault scaleFault roomWriting plainWriting recordWriting
 no-divisor = refl
+
+-- blank, with no room at all: 14 comes before 8 and 12, and behind 6. A polynomial's second word helps where it has two, a rational's divisor never
+abbrev blank : ℕ → ℕ → Formula
+blank n lo = formula 1 (shape Polynomial n 0 0) (pos lo) (pos 0) (padded (pos 0 ∷ pos 1 ∷ []))
+
+blank-refused :
+    (recordWriting 24 (blank 1 0) 0 ≡ refusedBy 14)
+    × (recordWriting 24 (blank 1 1) 0 ≡ refusedBy 6)
+    × (recordWriting 24 (blank 2 0) 0 ≡ refusedBy 12)
+    × (recordWriting 24 (formula 1 (shape Rational 1 1 0) (pos 0) (pos 0) (padded (pos 0 ∷ pos 1 ∷ []))) 0 ≡ refusedBy 14)
+    × (recordWriting 24 (formula 1 (shape Rational 1 1 0) (pos 0) (pos 0) (padded [])) 0 ≡ refusedBy 14)
+unfolding roundedUp boundOf rows firstRow rowOf codeFor piecesBy padded kept plainShape plainBy outside countFault intervalFault wordsFault allZero ownFault valueFault scaleFault roomWriting plainWriting recordWriting
+blank-refused = (refl, refl, refl, refl, refl)

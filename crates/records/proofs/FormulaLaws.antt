@@ -1,4 +1,4 @@
--- A record's check by its code: a formula's, of which a root has no words, or none that a formula has.
+-- A record's check by its code: a formula's, of which a root has no words and is never blank, or none that a formula has.
 use Rattle.whole.proofs.Basics.{_≡_, _∙_, refl, sym, ap, List, ℕ, arith}
 use Rattle.stored.specs.Words.{words}
 use Rattle.formula.specs.declared.Kind.{Kind}
@@ -14,7 +14,7 @@ use Rattle.faults.specs.Guard.{orElse}
 use Rattle.faults.specs.Faults.{wordsFault}
 use Rattle.faults.proofs.Chain.{or-none}
 use Rattle.records.specs.Records.{admissionFault, formulaFault, frontFault, onlyFormula}
-use Rattle.records.proofs.Front.{front-first}
+use Rattle.records.proofs.Front.{fromWords, front-first}
 
 pub no-words : (s : ℕ) (r : Row) (b : List ℕ) (seen count next : ℕ) → r .kind ≡ Root → frontFault r b seen count next ≡ formulaFault s r b seen count next
 unfolding shapeOf wordsFault words
@@ -22,7 +22,7 @@ no-words s r b seen count next e =
     let f = frontFault r b seen count next in
     sym (or-none f) ∙ ap (orElse f) none ∙ front-first s r b seen count next
   where
-    none : 0 ≡ orElse (wordsFault (wordsOf r b)) (admissionFault s (shapeOf r b) (loOf b) (hiOf b) (wordsOf r b))
+    none : 0 ≡ fromWords s r b
     none = rw e refl
 
 pub no-formula : (c : ℕ) → (c ≡ 0x0010 → ⊥) → (c ≡ 0x0011 → ⊥) → (c ≡ 0x0012 → ⊥) → (c ≡ 0x0013 → ⊥) → (c ≡ 0x0014 → ⊥) → (c ≡ 0x0015 → ⊥) → onlyFormula (rowOf c .class) ≡ 3

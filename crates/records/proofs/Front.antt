@@ -1,6 +1,6 @@
 -- A formula record's check by its code: the front, then what the kind's own admission has found over the words. What all kinds' checks
 -- need, said once: of the row that was found, of the record past its front, and of the answer.
-use Rattle.whole.proofs.Basics.{_≡_, _∙_, refl, sym, ap, subst, Bool, true, false, cond, List, ℕ, _-_, _/_, _≤_, eqb, length, ℤ, eqb-true}
+use Rattle.whole.proofs.Basics.{_≡_, _∙_, refl, sym, ap, subst, Bool, true, false, cond, List, ℕ, _-_, _/_, _≤_, eqb, length, take, ℤ, eqb-true}
 use Rattle.word.specs.Lists.{Words}
 use Rattle.stored.specs.Words.{words, Stretch}
 use Rattle.admission.specs.Admission.{admissionNumber, Judged}
@@ -8,7 +8,9 @@ use Rattle.admission.specs.declared.Admission.{Admission}
 use Rattle.admission.specs.declared.Admission.the-variants.{Admitted, RangeLeft, DivisorZero}
 use Rattle.formula.specs.declared.Kind.{Kind}
 use Rattle.formula.specs.Formula.{mostOf, wordCount, admissionBy, admissionOf}
+use Rattle.formula.specs.Blank.{allZero, blankBy, blankOf}
 use Rattle.formula.proofs.IntervalLaws.{most-word}
+use Rattle.formula.proofs.BlankLaws.{first-zero}
 use Rattle.table.specs.Table.{rowOf}
 use Rattle.table.specs.declared.Class.the-variants.{FormulaRecord}
 use Rattle.table.specs.declared.Row.{Row}
@@ -16,15 +18,21 @@ use Rattle.table.proofs.Rule.{ruled}
 use Rattle.layout.specs.Fields.{formulaNumber, shapeOf, loOf, hiOf, wordsOf, Complete}
 use Rattle.layout.proofs.Complete.{complete, reach, by-length}
 use Rattle.faults.specs.Guard.{orElse}
-use Rattle.faults.specs.Faults.{lengthFault, orderFault, wordFault, wordsFault, intervalFault, ownFault}
+use Rattle.faults.specs.Faults.{lengthFault, orderFault, wordFault, wordsFault, intervalFault, ownFault, blankFault}
 use Rattle.faults.proofs.Chain.{stop, pass, neither, or-assoc}
 use Rattle.faults.proofs.Lengths.{laid}
 use Rattle.faults.proofs.Values.{word, each-word, all-words}
 use Rattle.records.specs.Records.{admissionFault, judgedFault, valueFault, formulaFault, frontFault}
 
--- the front, then 6 of the words, then 7 or 8
-pub front-first : (s : ℕ) (r : Row) (b : List ℕ) (seen count next : ℕ)
-    → orElse (frontFault r b seen count next) (orElse (wordsFault (wordsOf r b)) (admissionFault s (shapeOf r b) (loOf b) (hiOf b) (wordsOf r b))) ≡ formulaFault s r b seen count next
+-- from the words on: 6, then 14, then 7 or 8
+abbrev pub fromWords : ℕ → Row → List ℕ → ℕ
+fromWords s r b =
+    let h = shapeOf r b in
+    let ws = wordsOf r b in
+    orElse (wordsFault ws) (orElse (blankFault h ws) (admissionFault s h (loOf b) (hiOf b) ws))
+
+-- the front, then these
+pub front-first : (s : ℕ) (r : Row) (b : List ℕ) (seen count next : ℕ) → orElse (frontFault r b seen count next) (fromWords s r b) ≡ formulaFault s r b seen count next
 unfolding frontFault formulaFault valueFault
 front-first s r b seen count next =
     let l = lengthFault r b in
@@ -94,13 +102,32 @@ module _ {code : ℕ} {k : Kind} {r : Row} {b : List ℕ} {seen count next f : �
   unfolding shapeOf
   words-stand = rw (← kind-is) (reach r b (whole .ruled) (whole .class) (whole .laid))
 
-  -- and its fault is by what the kind's own admission has found over them
-  pub front-passes : (s : ℕ) {g : ℕ} (found : Admission) → g ≡ judgedFault (words b (r .head) ((length b - r .head) / 4)) found
+  -- it is blank by the first of them, as many as its kind looks at
+  pub blank-is : (n : ℕ) {t : Bool} → n ≤ wordCount k (shapeOf r b .p) (shapeOf r b .q) → ((ws : List ℤ) → blankBy k (shapeOf r b .p) ws ≡ allZero (take n ws)) → t ≡ allZero (words b (r .head) n)
+      → blankOf (shapeOf r b) (wordsOf r b) ≡ t
+  unfolding shapeOf
+  blank-is n m looks e =
+      let p = shapeOf r b .p in
+      let q = shapeOf r b .q in
+      ap (λ (i : Kind). blankBy i p (words b (r .head) (wordCount i p q))) kind-is ∙ looks (words b (r .head) (wordCount k p q)) ∙ sym (first-zero b (r .head) n (wordCount k p q) m) ∙ sym e
+
+  all-words-are : words b (r .head) ((length b - r .head) / 4) ≡ wordsOf r b
+  all-words-are = ap (words b (r .head)) (by-length r b (whole .ruled) (whole .class) (whole .laid))
+
+  -- a blank one is refused by 14, or for its words
+  pub blank-stops : (s : ℕ) {g : ℕ} → g ≡ orElse (wordsFault (words b (r .head) ((length b - r .head) / 4))) 14 → blankOf (shapeOf r b) (wordsOf r b) ≡ true → g ≡ formulaFault s (rowOf code) b seen count next
+  blank-stops s e t = rw (← h .row) (pass (h .fault) z (e ∙ rest) ∙ front-first s r b seen count next)
+    where
+      rest : orElse (wordsFault (words b (r .head) ((length b - r .head) / 4))) 14 ≡ fromWords s r b
+      rest = rw (all-words-are, t) refl
+
+  -- the fault of another is by what the kind's own admission has found over its words
+  pub front-passes : (s : ℕ) {g : ℕ} (found : Admission) → blankOf (shapeOf r b) (wordsOf r b) ≡ false → g ≡ judgedFault (words b (r .head) ((length b - r .head) / 4)) found
       → Found s r b k found → g ≡ formulaFault s (rowOf code) b seen count next
   unfolding shapeOf
-  front-passes s {g} found e j = rw (← h .row) (pass (h .fault) z (e ∙ rest) ∙ front-first s r b seen count next)
+  front-passes s {g} found t e j = rw (← h .row) (pass (h .fault) z (e ∙ rest) ∙ front-first s r b seen count next)
     where
-      rest : judgedFault (words b (r .head) ((length b - r .head) / 4)) found ≡ orElse (wordsFault (wordsOf r b)) (admissionFault s (shapeOf r b) (loOf b) (hiOf b) (wordsOf r b))
+      rest : judgedFault (words b (r .head) ((length b - r .head) / 4)) found ≡ fromWords s r b
       rest =
-          ap (λ (m : ℕ). judgedFault (words b (r .head) m) found) (by-length r b (whole .ruled) (whole .class) (whole .laid))
-          ∙ judged-fault (wordsOf r b) (admissionOf s (shapeOf r b) (loOf b) (hiOf b) (wordsOf r b)) found (subst (λ (i : Kind). Found s r b i found) (sym kind-is) j)
+          ap (λ (ws : List ℤ). judgedFault ws found) all-words-are
+          ∙ rw t (judged-fault (wordsOf r b) (admissionOf s (shapeOf r b) (loOf b) (hiOf b) (wordsOf r b)) found (subst (λ (i : Kind). Found s r b i found) (sym kind-is) j))

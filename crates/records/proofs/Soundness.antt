@@ -1,4 +1,4 @@
--- A formula record without faults 2, 6, 7 and 8 is sound and admitted: what no fault says of each field.
+-- A formula record without faults 2, 6, 14, 7 and 8 is sound, not blank and admitted: what no fault says of each field.
 use Rattle.whole.proofs.Basics.{_≡_, refl, sym, subst, Bool, false, not, List, ℕ, _≤_, arith, T, length, ℤ, pos, _≤ℤ_, ltZ}
 use lib.Signed.{ltZ-no}
 use Rattle.stored.proofs.WordsLaws.{length-words}
@@ -9,12 +9,13 @@ use Rattle.formula.specs.declared.Kind.{Kind}
 use Rattle.formula.specs.declared.Kind.the-variants.{Polynomial, Rational, Fraction, Root, Odd, Even, NoFormula}
 use Rattle.formula.specs.declared.Shape.{Shape}
 use Rattle.formula.specs.Formula.{RootInterval, Sound, wordCount, admissionOf}
+use Rattle.formula.specs.Blank.{blankOf}
 use Rattle.table.specs.declared.Class.the-variants.{FormulaRecord}
 use Rattle.table.specs.declared.Row.{Row}
 use Rattle.table.specs.Table.{Within}
 use Rattle.table.specs.Rule.{Ruled}
 use Rattle.layout.specs.Fields.{shapeOf, loOf, hiOf, wordsOf, Complete}
-use Rattle.faults.specs.Faults.{outside, wordFault, wordsFault, intervalFault, kindFault, ownFault}
+use Rattle.faults.specs.Faults.{outside, wordFault, wordsFault, intervalFault, kindFault, ownFault, blankFault}
 use Rattle.faults.proofs.Chain.{passed, neither}
 use Rattle.faults.proofs.Lengths.{inside}
 use Rattle.faults.proofs.Values.{word, each-word}
@@ -52,15 +53,22 @@ sound s r h lo hi ws u c k p q n e =
       rooted = rw k (rooted (r .kind) lo (m .1));
     }
 
--- and admitted
-pub admitted : (s : ℕ) (r : Row) (h : Shape) (lo hi : ℤ) (ws : List ℤ) → valueFault s r h lo hi ws ≡ 0 → admissionOf s h lo hi ws ≡ Admitted
-unfolding valueFault
-admitted s r h lo hi ws e = none (admissionOf s h lo hi ws) (neither (wordsFault ws) _ (neither (ownFault r h lo hi) _ e .1) .1)
-  where
-    none : (a : Admission) → admissionNumber a ≡ 0 → a ≡ Admitted
-    none Admitted z = refl
-    none RangeLeft z = absurd (omega arith)
-    none DivisorZero z = absurd (omega arith)
+-- not blank, and admitted
+module _ (s : ℕ) (r : Row) (h : Shape) (lo hi : ℤ) (ws : List ℤ) (e : valueFault s r h lo hi ws ≡ 0) where
+  behind-words : (blankFault h ws ≡ 0) × (admissionNumber (admissionOf s h lo hi ws) ≡ 0)
+  unfolding valueFault
+  behind-words = neither (blankFault h ws) _ (neither (wordsFault ws) _ (neither (ownFault r h lo hi) _ e .1) .1)
+
+  pub filled : blankOf h ws ≡ false
+  filled = passed (blankOf h ws) 14 0 (λ z. omega arith) (behind-words .0) .0
+
+  pub admitted : admissionOf s h lo hi ws ≡ Admitted
+  admitted = none (admissionOf s h lo hi ws) (behind-words .1)
+    where
+      none : (a : Admission) → admissionNumber a ≡ 0 → a ≡ Admitted
+      none Admitted z = refl
+      none RangeLeft z = absurd (omega arith)
+      none DivisorZero z = absurd (omega arith)
 
 -- of a complete record's own bytes
 pub sound-record : (s : ℕ) (r : Row) (b : List ℕ) → Complete r b → innerFault s r b ≡ 0 → Sound (shapeOf r b) (loOf b) (hiOf b) (wordsOf r b)

@@ -20,7 +20,7 @@ use admission::Admission;
 use faults::parts;
 use table::Row;
 
-// All that comes before the words and admission: exact length (2); 4; 5; 6 of all but the words.
+// All that comes before the words: exact length (2); 4; 5; 6 of all but the words.
 fn front_fault(b: &[u8], row: Row, seen: u16, count: u16, next: u32) -> u8
     requires { ⌜ Ruled row × (row .class ≡ FormulaRecord) × (length (now b) ≤ 120) ⌝ }
     ensures { λ r. ⌜ r ≡ frontFault row (now (b .entry)) seen count next ⌝ }
@@ -40,7 +40,7 @@ fn front_fault(b: &[u8], row: Row, seen: u16, count: u16, next: u32) -> u8
     parts::own_fault(row, shape, layout::lo(b), layout::hi(b))
 }
 
-// A number that is no word comes before 7 and 8. Admission never admits one, so the words are looked at only where it refuses.
+// A number that is no word comes before 14, 7 and 8. Admission never admits one, so the words are looked at only where there is one of these.
 fn words_first(b: &[u8], at: usize, m: usize, number: u8) -> u8
     requires { ⌜ Stretch (now b) at m ⌝ }
     ensures { λ r. ⌜ r ≡ orElse (wordsFault (words (now (b .entry)) at m)) number ⌝ }
@@ -50,6 +50,14 @@ fn words_first(b: &[u8], at: usize, m: usize, number: u8) -> u8
         return f;
     }
     number
+}
+
+// A blank formula's number: 6 of its words, which stand from a place to the record's end; then 14.
+fn blank_fault(b: &[u8], at: usize) -> u8
+    requires { ⌜ at ≤ length (now b) ⌝ }
+    ensures { λ r. ⌜ r ≡ orElse (wordsFault (words (now (b .entry)) at ((length (now (b .entry)) - at) / 4))) 14 ⌝ }
+{
+    words_first(b, at, (b.len() - at) / 4, 14)
 }
 
 // The number of what admission has found over the words from a place to the record's end.
@@ -82,8 +90,11 @@ fn polynomial_fault(b: &[u8], seen: u16, count: u16, next: u32, s: u32) -> u8
     if f != 0 {
         return f;
     }
-    let shape = layout::shape_of(b, row);
-    let found = polynomial::admit(b, row.head, shape.p as usize, most(b), s);
+    let p = layout::shape_of(b, row).p as usize;
+    if parts::all_zero(b, row.head, p) {
+        return blank_fault(b, row.head);
+    }
+    let found = polynomial::admit(b, row.head, p, most(b), s);
     admission_fault(b, row.head, found)
 }
 
@@ -97,9 +108,16 @@ fn rational_fault(b: &[u8], seen: u16, count: u16, next: u32, s: u32) -> u8
         return f;
     }
     let shape = layout::shape_of(b, row);
-    let found = rational::admit(b, row.head, shape.p as usize, shape.q as usize, most(b), s);
+    let p = shape.p as usize;
+    if parts::all_zero(b, row.head, p) {
+        return blank_fault(b, row.head);
+    }
+    let found = rational::admit(b, row.head, p, shape.q as usize, most(b), s);
     admission_fault(b, row.head, found)
 }
+
+// The words of a fraction begin with these two.
+const B0_AND_A1: usize = 2;
 
 fn fraction_fault(b: &[u8], seen: u16, count: u16, next: u32, s: u32) -> u8
     requires { ⌜ Scale s × (length (now b) ≤ 120) ⌝ }
@@ -109,6 +127,9 @@ fn fraction_fault(b: &[u8], seen: u16, count: u16, next: u32, s: u32) -> u8
     let f = front_fault(b, row, seen, count, next);
     if f != 0 {
         return f;
+    }
+    if parts::all_zero(b, row.head, B0_AND_A1) {
+        return blank_fault(b, row.head);
     }
     let shape = layout::shape_of(b, row);
     let found = fraction_admission::admit(
@@ -122,7 +143,7 @@ fn fraction_fault(b: &[u8], seen: u16, count: u16, next: u32, s: u32) -> u8
     admission_fault(b, row.head, found)
 }
 
-// A root has no words, and is always admitted.
+// A root has no words, is never blank and is always admitted.
 fn root_fault(b: &[u8], seen: u16, count: u16, next: u32) -> u8
     requires { ⌜ length (now b) ≤ 120 ⌝ }
     ensures { λ r. ⌜ r ≡ frontFault (rowOf (codeFor Root)) (now (b .entry)) seen count next ⌝ }
@@ -139,8 +160,11 @@ fn odd_fault(b: &[u8], seen: u16, count: u16, next: u32, s: u32) -> u8
     if f != 0 {
         return f;
     }
-    let shape = layout::shape_of(b, row);
-    let found = odd_even::admit_odd(b, row.head, shape.p as usize, most(b), s);
+    let p = layout::shape_of(b, row).p as usize;
+    if parts::all_zero(b, row.head, p) {
+        return blank_fault(b, row.head);
+    }
+    let found = odd_even::admit_odd(b, row.head, p, most(b), s);
     admission_fault(b, row.head, found)
 }
 
@@ -153,8 +177,11 @@ fn even_fault(b: &[u8], seen: u16, count: u16, next: u32, s: u32) -> u8
     if f != 0 {
         return f;
     }
-    let shape = layout::shape_of(b, row);
-    let found = odd_even::admit_even(b, row.head, shape.p as usize, most(b), s);
+    let p = layout::shape_of(b, row).p as usize;
+    if parts::all_zero(b, row.head, p) {
+        return blank_fault(b, row.head);
+    }
+    let found = odd_even::admit_even(b, row.head, p, most(b), s);
     admission_fault(b, row.head, found)
 }
 

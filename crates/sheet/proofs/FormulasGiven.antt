@@ -1,4 +1,4 @@
--- Promise: each formula that the reader gives is sound and admitted and has the number asked for; a number is found exactly
+-- Promise: each formula that the reader gives is sound, not blank and admitted and has the number asked for; a number is found exactly
 -- when a record of the sheet has it, and the formula is then that record's.
 use Rattle.whole.proofs.Basics.{_≡_, _∙_, refl, ap, subst, _⊎_, inl, inr, List, ℕ, arith, length}
 use Rattle.word.specs.Words.{Scale}
@@ -96,7 +96,7 @@ module _ (s : ℕ) (bytes : List ℕ) (n : ℕ) (e : HasFormula s bytes n) where
   there fs (inl g) = g
   there fs (inr l) = absurd (let z : _≡_ {A = ℕ} 11 0 = rw (l .1) at e in omega arith)
 
-  -- a formula that is given is sound and admitted, and has the number
+  -- a formula that is given is sound, not blank and admitted, and has the number
   pub given-fits : Fit s (formulaRead s bytes n .formula) × (formulaRead s bytes n .formula .number ≡ n)
   unfolding formulaOf
   given-fits =

@@ -1,8 +1,9 @@
--- A formula record without fault: it is complete, its formula has the words that stand in it, and is sound and admitted.
-use Rattle.whole.proofs.Basics.{_≡_, sym, subst, List, ℕ, take, ℤ}
+-- A formula record without fault: it is complete, its formula has the words that stand in it, and is sound, not blank and admitted.
+use Rattle.whole.proofs.Basics.{_≡_, sym, subst, false, List, ℕ, take, ℤ}
 use Rattle.stored.proofs.WordsLaws.{length-words}
 use Rattle.admission.specs.declared.Admission.the-variants.{Admitted}
 use Rattle.formula.specs.Formula.{wordCount, Sound, admissionOf}
+use Rattle.formula.specs.Blank.{blankOf}
 use Rattle.table.specs.declared.Class.the-variants.{FormulaRecord}
 use Rattle.table.specs.declared.Row.{Row}
 use Rattle.table.proofs.Rule.{ruled}
@@ -11,7 +12,7 @@ use Rattle.layout.proofs.Complete.{complete}
 use Rattle.layout.proofs.Padded.{take-padded}
 use Rattle.faults.proofs.Lengths.{laid}
 use Rattle.records.specs.Sheets.{RecordOf, FormulaBytes}
-use Rattle.records.proofs.Soundness.{admitted, sound-record}
+use Rattle.records.proofs.Soundness.{filled, admitted, sound-record}
 use Rattle.sheet.specs.Reader.{formulaIn, Fit}
 
 pub complete-record : (b : List ℕ) → RecordOf FormulaRecord b → Complete (rowFor b) b
@@ -32,5 +33,6 @@ fit s b f =
     let e = sym (words-in r b) in
     record {
       sound = subst (λ (ws : List ℤ). Sound h (loOf b) (hiOf b) ws) e (sound-record s r b (complete-record b (f .one)) (f .inner));
+      filled = subst (λ (ws : List ℤ). blankOf h ws ≡ false) e (filled s r h (loOf b) (hiOf b) (wordsOf r b) (f .inner));
       admitted = subst (λ (ws : List ℤ). admissionOf s h (loOf b) (hiOf b) ws ≡ Admitted) e (admitted s r h (loOf b) (hiOf b) (wordsOf r b) (f .inner));
     }

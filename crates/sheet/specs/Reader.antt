@@ -1,6 +1,7 @@
 -- What the reader answers, at s binary places: the formula count of a sheet, and the formula of a number.
 use Prim.Native.Nat.{ℕ, zero, suc}
 use mathlib.Core.Path.{_≡_, refl}
+use mathlib.Core.Bool.{false}
 use mathlib.Core.List.{List, [], _∷_}
 use lib.ListN.{replicate}
 use lib.IntN.{pos}
@@ -11,6 +12,7 @@ use Rattle.admission.specs.declared.Admission.the-variants.{Admitted}
 use Rattle.formula.specs.declared.Kind.the-variants.{NoFormula}
 use Rattle.formula.specs.declared.Formula.{Formula}
 use Rattle.formula.specs.Formula.{Sound, admissionOf}
+use Rattle.formula.specs.Blank.{allZero, blankOf}
 use Rattle.table.specs.Table.{rows, firstRow, rowOf, piecesBy}
 use Rattle.layout.specs.Fields.{bytesAt, Reaches, rowFor, firstCount, fieldOf, shape, shapeOf, padded, formula, formulaOf, wordsIn}
 use Rattle.faults.specs.Faults.{frameFault, outside, countFault, sizeFault, lengthFault, startFault, scaleFault, orderFault, endFault, ownFault, intervalFault, wordsFault}
@@ -124,9 +126,10 @@ formulaRead s bytes n = readAt bytes (formulaPlace s bytes n)
 abbrev pub HasFormula : ℕ → List ℕ → ℕ → Type 0
 HasFormula s bytes n = foundNumber (formulaRead s bytes n .found) ≡ 0
 
--- ---- a formula that is sound and admitted
+-- ---- a formula that is sound, not blank and admitted
 pub record Fit (s : ℕ) (f : Formula) : Type 0 where
   pub sound : Sound (f .shape) (f .lo) (f .hi) (wordsIn f)
+  pub filled : blankOf (f .shape) (wordsIn f) ≡ false
   pub admitted : admissionOf s (f .shape) (f .lo) (f .hi) (wordsIn f) ≡ Admitted
 
 -- a formula record without fault stands at a place
@@ -180,3 +183,14 @@ one-root = (refl, refl, refl, refl, refl, refl)
 nothing-given : noFormula ≡ formula 0 (shape NoFormula 0 0 0) (pos 0) (pos 0) (replicate 32 (pos 0))
 unfolding noFormula padded
 nothing-given = refl
+
+-- a sheet of one polynomial over 0 to 1 step, of two coefficients, both zero: 14 at its place
+abbrev oneBlank : List ℕ
+oneBlank =
+    8 ∷ 0 ∷ 0 ∷ 0 ∷ 1 ∷ 0 ∷ 1 ∷ 0
+    ∷ 24 ∷ 0 ∷ 0 ∷ 0 ∷ 16 ∷ 0 ∷ 5 ∷ 0 ∷ 0 ∷ 0 ∷ 0 ∷ 0 ∷ 1 ∷ 0 ∷ 0 ∷ 0 ∷ 0 ∷ 0 ∷ 0 ∷ 0 ∷ 0 ∷ 0 ∷ 0 ∷ 0
+    ∷ 8 ∷ 0 ∷ 0 ∷ 0 ∷ 255 ∷ 255 ∷ 1 ∷ 0 ∷ []
+
+one-blank : (formulaCount 24 oneBlank ≡ Refused (refusal 8 14)) × (formulaPlace 24 oneBlank 5 ≡ Absent (refusal 8 14)) × (formulaPlace 24 oneBlank 6 ≡ Absent (refusal 8 14))
+unfolding formulaCount formulaPlace walkOf walkFrom faultAt frameFault bytesAt recordFault lengthFault sizeFault countFault outside startFault scaleFault orderFault valueFault ownFault intervalFault wordsFault allZero number2 number4 words rows firstRow rowOf firstCount fieldOf shapeOf piecesBy
+one-blank = (refl, refl, refl)

@@ -4,9 +4,10 @@ use mathlib.Core.Path.{_≡_, refl}
 use mathlib.Core.List.{List, [], _∷_, _++_}
 use mathlib.Core.Bool.{cond}
 use lib.Dec.{eqb, ltb}
-use lib.ListN.{length}
+use lib.ListN.{length, replicate}
 use Rattle.stored.specs.Numbers.{number2, number4, bytes2, bytes4}
 use Rattle.stored.specs.Words.{words}
+use Rattle.formula.specs.Blank.{allZero}
 use Rattle.table.specs.Table.{rows, firstRow, rowOf, piecesBy}
 use Rattle.table.specs.Codes.{startRow, endRow}
 use Rattle.layout.specs.Fields.{bytesAt, firstCount, fieldOf, shapeOf}
@@ -97,3 +98,11 @@ first-of-all = (refl, refl)
 room-last : (sheetWriting 24 (0 ∷ 0 ∷ 0 ∷ []) 0 ≡ Refused (refusal 8 1)) × (sheetWriting 24 [] 0 ≡ refusedBy 4)
 unfolding sheetWriting scaleFault startRow rows firstRow rowOf frameFault faultAt walkFrom walkOf
 room-last = (refl, refl)
+
+-- a polynomial of one coefficient, nought, behind the paper's root: 14 at its place, and before 12
+abbrev blankBehind : List ℕ
+blankBehind = exampleRun ++ (20 ∷ 0 ∷ 0 ∷ 0 ∷ 0x10 ∷ 0 ∷ 2 ∷ 0 ∷ replicate 12 0)
+
+blank-in-run : sheetWriting 24 blankBehind 0 ≡ Refused (refusal 24 14)
+unfolding sheetWriting scaleFault startRow endRow rows firstRow rowOf number2 number4 piecesBy words firstCount fieldOf shapeOf frameFault bytesAt outside countFault lengthFault sizeFault orderFault intervalFault ownFault wordsFault allZero valueFault recordFault faultAt foundBy walkFrom walkOf
+blank-in-run = refl

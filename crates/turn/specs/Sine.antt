@@ -80,7 +80,7 @@ abbrev pub cosineOf : ℕ → List ℕ → ℕ → ℕ → Evaluation
 cosineOf s bytes n a = sineOf s bytes n (angleSum a quarterTurn)
 
 -- ---- worked examples. The refusals, 10 not among them
-the-refusals : sineRefusals ≡ 15 ∷ 11 ∷ 9 ∷ 1 ∷ 2 ∷ 3 ∷ 4 ∷ 5 ∷ 6 ∷ 7 ∷ 8 ∷ []
+the-refusals : sineRefusals ≡ 15 ∷ 11 ∷ 9 ∷ 1 ∷ 2 ∷ 3 ∷ 4 ∷ 5 ∷ 6 ∷ 14 ∷ 7 ∷ 8 ∷ []
 the-refusals = refl
 
 -- 15 by the kind; and by the interval, at both ends of 0 to one, at 24 places and at 16 and 28

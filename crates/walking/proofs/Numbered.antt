@@ -38,7 +38,7 @@ content : (s : ℕ) (k : Class) (r : Row) (b : List ℕ) (w : Walk) → of-recor
 content s StartRecord r b w = first recordRefusals _ _ (start-set recordRefusals (is 4 tt) r (countOf b)) (scale-set recordRefusals (is 6 tt) s)
 content s FormulaRecord r b w =
     first recordRefusals _ _ (order-set recordRefusals (is 4 tt) (is 5 tt) (w .seen) (w .count) (w .next) (formulaNumber b))
-    (value-set recordRefusals (is 6 tt) (is 7 tt) (is 8 tt) s r (shapeOf r b) (loOf b) (hiOf b) (wordsOf r b))
+    (value-set recordRefusals (is 6 tt) (is 14 tt) (is 7 tt) (is 8 tt) s r (shapeOf r b) (loOf b) (hiOf b) (wordsOf r b))
 content s EndRecord r b w = end-set recordRefusals (is 4 tt) (w .seen) (w .count) (countOf b)
 content s Unknown r b w = none recordRefusals
 
