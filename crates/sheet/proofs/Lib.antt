@@ -9,4 +9,6 @@ pub mod AcceptedShape
 pub mod CutShort
 pub mod ZeroTail
 pub mod FormulasGiven
+pub mod NoBlank
+pub mod BlankRefused
 pub mod Settled

@@ -77,6 +77,13 @@ in-line-append : (l r : List (List ℕ)) → inLine (l ++ r) ≡ inLine l ++ inL
 in-line-append [] r = refl
 in-line-append (x ∷ l) r = ap (λ (t : List ℕ). x ++ t) (in-line-append l r) ∙ sym (append-assoc x (inLine l) (inLine r))
 
+-- one of the records of a sheet, with what stands before and behind it
+pub around : (start : List ℕ) (l : List (List ℕ)) (b : List ℕ) (r : List (List ℕ)) (finish : List ℕ)
+    → start ++ (inLine (l ++ (b ∷ r)) ++ finish) ≡ start ++ (inLine l ++ (b ++ (inLine r ++ finish)))
+around start l b r finish =
+    ap (λ (t : List ℕ). start ++ (t ++ finish)) (in-line-append l (b ∷ r))
+    ∙ ap (λ (t : List ℕ). start ++ t) (append-assoc (inLine l) (b ++ inLine r) finish ∙ ap (λ (t : List ℕ). inLine l ++ t) (append-assoc b (inLine r) finish))
+
 -- such a record stands at that place of the sheet
 pub stands : (s c : ℕ) (bytes : List ℕ) (h : SheetOf s c bytes) (n k : ℕ) (a : RecordAt n (length (h .start)) k (h .formulas)) → FormulaStands s bytes k × (bytesAt bytes k ≡ a .here)
 stands s c bytes h n k a =
@@ -87,8 +94,7 @@ stands s c bytes h n k a =
     let e : bytes ≡ pre ++ (b ++ post) =
     h .whole
     ∙ ap (λ (t : List (List ℕ)). h .start ++ (inLine t ++ h .finish)) (a .is)
-    ∙ ap (λ (t : List ℕ). h .start ++ (t ++ h .finish)) (in-line-append (a .before) (b ∷ a .after))
-    ∙ ap (λ (t : List ℕ). h .start ++ t) (append-assoc (inLine (a .before)) (b ++ inLine (a .after)) (h .finish) ∙ ap (λ (t : List ℕ). inLine (a .before) ++ t) (append-assoc b (inLine (a .after)) (h .finish)))
+    ∙ around (h .start) (a .before) b (a .after) (h .finish)
     ∙ sym (append-assoc (h .start) (inLine (a .before)) (b ++ post)) in
     let l : k ≡ length pre = a .place ∙ sym (length-append (h .start) (inLine (a .before))) in
     let y : bytesAt bytes k ≡ b = rw (e, l) (bytes-there pre b post FormulaRecord (f .one)) in (

@@ -24,7 +24,7 @@ afterAll (b ∷ bs) w = afterAll bs (afterFormula b w)
 
 module _ (s : ℕ) (bytes : List ℕ) (from : ℕ) where
   -- a run is not done before a record
-  not-done : (before b after : List ℕ) (w : Walk) → bytes ≡ before ++ (b ++ after) → w .at ≡ from + length before → 8 ≤ length b → runDone bytes from w ≡ false
+  pub not-done : (before b after : List ℕ) (w : Walk) → bytes ≡ before ++ (b ++ after) → w .at ≡ from + length before → 8 ≤ length b → runDone bytes from w ≡ false
   not-done before b after w q a l = by from refl
     where
       long : length bytes ≡ length before + (length b + length after)

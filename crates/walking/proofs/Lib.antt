@@ -9,3 +9,4 @@ pub mod WalkToShape
 pub mod ShapeToWalk
 pub mod WalkToRefusal
 pub mod RefusalToWalk
+pub mod BlankMet

@@ -22,7 +22,7 @@ refusalsFrom (suc n) = recordRefusals
 
 -- ---- the fault of a record
 
-abbrev of-record : ℕ → Type 0
+abbrev pub of-record : ℕ → Type 0
 of-record n = Fault recordRefusals n
 
 is : (n : ℕ) → T (among (0 ∷ recordRefusals) n) → of-record n
@@ -42,7 +42,7 @@ content s FormulaRecord r b w =
 content s EndRecord r b w = end-set recordRefusals (is 4 tt) (w .seen) (w .count) (countOf b)
 content s Unknown r b w = none recordRefusals
 
-fault : (s : ℕ) (bytes : List ℕ) (from : ℕ) (w : Walk) → of-record (faultAt s bytes from w)
+pub fault : (s : ℕ) (bytes : List ℕ) (from : ℕ) (w : Walk) → of-record (faultAt s bytes from w)
 unfolding faultAt recordFault
 fault s bytes from w =
     let b = recordHere bytes from w in

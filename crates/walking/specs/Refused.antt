@@ -9,6 +9,7 @@ use Rattle.word.specs.Words.{Scale}
 use Rattle.table.specs.declared.Class.the-variants.{StartRecord}
 use Rattle.layout.specs.Fields.{countOf, formulaNumber}
 use Rattle.faults.specs.Guard.{refusal}
+use Rattle.faults.specs.Refusals.{OneOf, recordRefusals}
 use Rattle.records.specs.Sheets.{RecordOf, EachFormula, Rising, inLine, SheetOf}
 use Rattle.faults.specs.declared.Refusal.{Refusal}
 use Rattle.walking.specs.Walking.{walk, faultAt}
@@ -55,3 +56,10 @@ pub record BehindTheEnd (s : ℕ) (bytes : List ℕ) (r : Refusal) : Type 0 wher
 
 abbrev pub RefusedAt : ℕ → List ℕ → Refusal → Type 0
 RefusedAt s bytes r = AtTheStart s bytes r ⊎ (BehindFormulas s bytes r ⊎ BehindTheEnd s bytes r)
+
+-- ---- with a blank record at a place: refused there, by 14 or by 4, 5 or 6, which come before it; or at an earlier record
+abbrev pub blankRefusals : List ℕ
+blankRefusals = 4 ∷ 5 ∷ 6 ∷ 14 ∷ []
+
+abbrev pub BlankOrBefore : ℕ → Refusal → Type 0
+BlankOrBefore place r = ((r .place ≡ place) × OneOf blankRefusals (r .number)) ⊎ ((r .place < place) × OneOf recordRefusals (r .number))
