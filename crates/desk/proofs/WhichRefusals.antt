@@ -12,7 +12,7 @@ use Rattle.faults.proofs.FaultSets.{one-of}
 use Rattle.sheet.specs.Reader.{readerRefusals, foundNumber, formulaRead}
 use Rattle.sheet.specs.declared.answers.Found.{Found}
 use Rattle.sheet.specs.declared.answers.Found.the-variants.{Given, Refused as Withheld}
-use Rattle.sheet.proofs.OneToNine.{read-or-eleven}
+use Rattle.sheet.proofs.WhichRefusals.{read-or-eleven}
 use Rattle.answering.specs.Answering.{withMark, answerAt}
 use Rattle.answering.specs.declared.answers.Evaluation.{Evaluation}
 use Rattle.answering.specs.declared.answers.Evaluation.the-variants.{Answered, Refused}

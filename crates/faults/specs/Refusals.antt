@@ -1,9 +1,10 @@
 -- The refusals that a record, and a sheet, can give, as sets. A request that adds one adds it here, and to the record writer's own set
 -- where that can give it too.
 use Prim.Native.Nat.{ℕ}
-use mathlib.Core.Path.{_≡_}
+use mathlib.Core.Path.{_≡_, refl}
 use mathlib.Core.Logic.{_⊎_}
 use mathlib.Core.List.{List, [], _∷_}
+use lib.ListN.{length}
 
 -- one of a list of numbers
 abbrev pub OneOf : List ℕ → ℕ → Type 0
@@ -16,3 +17,7 @@ recordRefusals = 1 ∷ 2 ∷ 3 ∷ 4 ∷ 5 ∷ 6 ∷ 14 ∷ 7 ∷ 8 ∷ []
 
 abbrev pub sheetRefusals : List ℕ
 sheetRefusals = 9 ∷ recordRefusals
+
+-- ---- a worked example: 1 to 8 and 14 are nine numbers, and 9 is the tenth
+how-many : (length recordRefusals ≡ 9) × (length sheetRefusals ≡ 10)
+how-many = (refl, refl)

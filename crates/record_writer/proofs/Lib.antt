@@ -4,4 +4,5 @@ pub mod RecordFaults
 pub mod RecordWriting
 pub mod Accepted
 pub mod WhichRefusals
+pub mod NoBlank
 pub mod Settled

@@ -1,4 +1,4 @@
--- Promise: the record writer writes, or refuses by 3, 2, 6, 7, 8 or 12; and it has no refusal exactly when it wrote. Each check gives one of these or none, and so do checks one behind the other.
+-- Promise: the record writer writes, or refuses by 3, 2, 6, 14, 7, 8 or 12; and it has no refusal exactly when it wrote. Each check gives one of these or none, and so do checks one behind the other.
 use Rattle.whole.proofs.Basics.{_≡_, refl, Bool, true, false, cond, not, _⊎_, inl, inr, List, _∷_, ℕ, T, eqb, ltb, eqb-false}
 use Rattle.formula.specs.declared.Formula.{Formula}
 use Rattle.table.specs.declared.Class.{Class}

@@ -1,4 +1,4 @@
-// The record writer: 3; 6 for the binary places; 2; 6; 7 or 8; then 12, all at place 0. Only then does it touch the buffer.
+// The record writer: 3; 6 for the binary places; 2; 6; 14; 7 or 8; then 12, all at place 0. Only then does it touch the buffer.
 ghost use mathlib.Core.Path.{_≡_};
 ghost use Prim.Native.Nat.{_≤_};
 ghost use lib.ListN.{length};

@@ -9,11 +9,11 @@ use Rattle.table.proofs.CodeLaws.{code-found, code-again, formula-kind}
 use Rattle.table.specs.declared.Class.{Class}
 use Rattle.table.specs.declared.Class.the-variants.{StartRecord, FormulaRecord, EndRecord, Unknown}
 use Rattle.table.specs.declared.Row.{Row}
-use Rattle.layout.specs.Fields.{shapeOf, loOf, hiOf, wordsOf}
+use Rattle.layout.specs.Fields.{shapeOf}
 use Rattle.faults.specs.Guard.{orElse}
 use Rattle.faults.specs.Faults.{wordsFault}
 use Rattle.faults.proofs.Chain.{or-none}
-use Rattle.records.specs.Records.{admissionFault, formulaFault, frontFault, onlyFormula}
+use Rattle.records.specs.Records.{formulaFault, frontFault, onlyFormula}
 use Rattle.records.proofs.Front.{fromWords, front-first}
 
 pub no-words : (s : ℕ) (r : Row) (b : List ℕ) (seen count next : ℕ) → r .kind ≡ Root → frontFault r b seen count next ≡ formulaFault s r b seen count next

@@ -2,16 +2,14 @@
 -- and nothing more. Said of the bytes, without the walk, at s binary places.
 use Prim.Native.Nat.{ℕ, _+_, _≤_}
 use mathlib.Core.Path.{_≡_}
-use mathlib.Core.Bool.{true}
 use mathlib.Core.List.{List, [], _∷_, _++_}
 use mathlib.Core.Logic.{_⊎_}
 use lib.ListN.{length}
 use Rattle.word.specs.Words.{Scale}
 use Rattle.stored.specs.Numbers.{number4}
-use Rattle.formula.specs.Blank.{blankOf}
 use Rattle.table.specs.declared.Class.{Class}
 use Rattle.table.specs.declared.Class.the-variants.{StartRecord, FormulaRecord, EndRecord}
-use Rattle.layout.specs.Fields.{rowFor, countOf, formulaNumber, shapeOf, wordsOf}
+use Rattle.layout.specs.Fields.{rowFor, countOf, formulaNumber}
 use Rattle.faults.specs.Faults.{lengthFault}
 use Rattle.records.specs.Records.{innerFault}
 
@@ -31,15 +29,6 @@ pub record FormulaBytes (s : ℕ) (b : List ℕ) : Type 0 where
 abbrev pub EachFormula : ℕ → List (List ℕ) → Type 0
 EachFormula s [] = Unit
 EachFormula s (b ∷ bs) = FormulaBytes s b × EachFormula s bs
-
--- formula records with any numbers and values, and one whose formula is blank
-abbrev pub EachRecord : List (List ℕ) → Type 0
-EachRecord [] = Unit
-EachRecord (b ∷ bs) = RecordOf FormulaRecord b × EachRecord bs
-
-pub record BlankBytes (b : List ℕ) : Type 0 where
-  pub one : RecordOf FormulaRecord b
-  pub blank : blankOf (shapeOf (rowFor b) b) (wordsOf (rowFor b) b) ≡ true
 
 -- each number above the one before, and the first not below n
 abbrev pub Rising : ℕ → List (List ℕ) → Type 0

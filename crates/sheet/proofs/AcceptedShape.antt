@@ -10,7 +10,7 @@ use Rattle.walking.proofs.WalkToShape.{shape}
 use Rattle.walking.proofs.ShapeToWalk.{walked}
 use Rattle.sheet.specs.Reader.{countNumber, countValue, formulaCount, noNumber, countAnswer, Accepted}
 use Rattle.sheet.specs.declared.answers.FormulaCount.the-variants.{Count}
-use Rattle.sheet.proofs.OneToNine.{accepted}
+use Rattle.sheet.proofs.WhichRefusals.{accepted}
 
 pub accepted-shape : (s : ℕ) (bytes : List ℕ) → Accepted s bytes → SheetOf s (countValue (formulaCount s bytes)) bytes
 unfolding formulaCount

@@ -8,9 +8,9 @@ use Rattle.faults.specs.Guard.{refusal}
 use Rattle.faults.specs.Faults.{orderFault, wordsFault, ownFault}
 use Rattle.faults.specs.declared.Refusal.{Refusal}
 use Rattle.records.specs.Records.{valueFault, innerFault}
-use Rattle.records.specs.Sheets.{RecordOf, EachRecord, BlankBytes, EachFormula, Rising, inLine, SheetOf}
+use Rattle.records.specs.Sheets.{RecordOf, EachFormula, Rising, inLine, SheetOf}
 use Rattle.walking.specs.Walking.{walk}
-use Rattle.walking.specs.Refused.{nextNumber, faultThere, BlankOrBefore}
+use Rattle.walking.specs.Refused.{nextNumber, faultThere, EachRecord, BlankBytes, BlankOrBefore}
 use Rattle.walking.proofs.BlankMet.{fault-there, in-place, blank-walked}
 use Rattle.sheet.specs.Reader.{countAnswer, noNumber, formulaCount}
 use Rattle.sheet.specs.declared.answers.FormulaCount.the-variants.{Refused}

@@ -2,7 +2,7 @@
 pub mod Words
 pub mod Places
 -- Promises.
-pub mod OneToNine
+pub mod WhichRefusals
 pub mod RefusedThere
 pub mod SameRefusal
 pub mod AcceptedShape

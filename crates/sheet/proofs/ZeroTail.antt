@@ -9,7 +9,7 @@ use Rattle.layout.specs.Fields.{codeOf, rowFor, shapeOf}
 use Rattle.faults.proofs.Lengths.{laid}
 use Rattle.records.specs.Sheets.{inLine}
 use Rattle.sheet.specs.Reader.{Accepted, NotAccepted}
-use Rattle.sheet.proofs.OneToNine.{one-to-nine}
+use Rattle.sheet.proofs.WhichRefusals.{accepted-or-refused}
 use Rattle.sheet.proofs.AcceptedShape.{accepted-shape}
 use Rattle.sheet.proofs.CutShort.{before-or-not}
 
@@ -76,7 +76,7 @@ module _ (k : ℕ) (bytes : List ℕ) (h : k ≤ length bytes) where
 
 -- two zeros or more at the end, up to the whole sheet
 pub zero-tail : (s : ℕ) (bytes : List ℕ) (k : ℕ) → Accepted s bytes → k + 2 ≤ length bytes → NotAccepted s (zeroed k bytes)
-zero-tail s bytes k a h = at (one-to-nine s (zeroed k bytes))
+zero-tail s bytes k a h = at (accepted-or-refused s (zeroed k bytes))
   where
     at : Accepted s (zeroed k bytes) ⊎ NotAccepted s (zeroed k bytes) → NotAccepted s (zeroed k bytes)
     at (inl z) = absurd (omega (arith, h, reached k bytes (omega (arith, h)) (last-bytes s (zeroed k bytes) z)))

@@ -5,4 +5,5 @@ pub mod ReadsWritten
 pub mod WritesRead
 pub mod WritesAll
 pub mod WhichRefusals
+pub mod BlankRun
 pub mod Settled

@@ -4,7 +4,7 @@ use Rattle.faults.specs.Refusals.{OneOf}
 use Rattle.sheet.specs.Reader.{readerRefusals, foundNumber, formulaRead}
 use Rattle.sheet.specs.declared.answers.Found.{Found}
 use Rattle.sheet.specs.declared.answers.Found.the-variants.{Given, Refused as Withheld}
-use Rattle.sheet.proofs.OneToNine.{read-or-eleven}
+use Rattle.sheet.proofs.WhichRefusals.{read-or-eleven}
 use Rattle.answering.specs.Answering.{evaluationNumber}
 use Rattle.board.proofs.WhichRefusals.{AnswerOr}
 use Rattle.turn.specs.Angles.{quarterTurn, angleSum}

@@ -1,6 +1,6 @@
 -- A blank record on the walk's way, behind formula records of any numbers and values: the walk is broken at it, by 14 or by what comes before
 -- that, or at an earlier record. Each earlier record breaks the walk or lets it come to the next.
-use Rattle.whole.proofs.Basics.{_≡_, _∙_, refl, sym, ap, subst, Bool, true, false, cond, _⊎_, inl, inr, List, [], _∷_, _++_, append-assoc, ℕ, suc, zero, _+_, _-_, arith, T, eqb, length, length-append, eqb-true, eqb-false, eq-eqb, ne-eqb}
+use Rattle.whole.proofs.Basics.{_≡_, _∙_, refl, sym, ap, subst, Bool, true, false, inl, inr, List, [], _∷_, _++_, append-assoc, ℕ, suc, zero, _+_, _-_, arith, T, eqb, length, length-append, eqb-true, eqb-false, eq-eqb, ne-eqb}
 use Rattle.table.specs.declared.Class.{Class}
 use Rattle.table.specs.declared.Class.the-variants.{StartRecord, FormulaRecord}
 use Rattle.layout.specs.Fields.{rowFor, formulaNumber, shapeOf, loOf, hiOf, wordsOf}
@@ -11,10 +11,10 @@ use Rattle.faults.specs.declared.Refusal.{Refusal}
 use Rattle.faults.proofs.Chain.{neither}
 use Rattle.faults.proofs.FaultSets.{Fault, one-of, first, order-set, own-set, words-set}
 use Rattle.records.specs.Records.{valueFault, innerFault}
-use Rattle.records.specs.Sheets.{RecordOf, EachRecord, BlankBytes, inLine}
+use Rattle.records.specs.Sheets.{RecordOf, inLine}
 use Rattle.records.proofs.Soundness.{filled}
 use Rattle.walking.specs.Walking.{begin, placeFault, classFault, recordFault, recordHere, faultAt, afterStart, afterFormula, onward, walkFrom, walkOf}
-use Rattle.walking.specs.Refused.{blankRefusals, BlankOrBefore}
+use Rattle.walking.specs.Refused.{EachRecord, BlankBytes, blankRefusals, BlankOrBefore}
 use Rattle.walking.specs.declared.Walk.{Walk}
 use Rattle.walking.specs.declared.Walked.the-variants.{Broken}
 use Rattle.walking.proofs.Clear.{walk-broken}

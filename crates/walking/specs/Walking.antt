@@ -41,14 +41,14 @@ placeFault from FormulaRecord at = cond (eqb at 0) 3 0
 placeFault from EndRecord at = cond (eqb at 0) 3 (cond (eqb from 0) 0 3)
 placeFault from Unknown at = 3
 
--- what follows the exact length, by the record's class: 4, then the scale (6); 4, 5, 6, 7 or 8; 4
+-- what follows the exact length, by the record's class: 4, then the scale (6); 4, 5, 6, 14, 7 or 8; 4
 abbrev pub classFault : ℕ → Class → Row → List ℕ → Walk → ℕ
 classFault s StartRecord r b w = orElse (startFault r (countOf b)) (scaleFault s)
 classFault s FormulaRecord r b w = orElse (orderFault (w .seen) (w .count) (w .next) (formulaNumber b)) (innerFault s r b)
 classFault s EndRecord r b w = endFault (w .seen) (w .count) (countOf b)
 classFault s Unknown r b w = 0
 
--- kind and place (3); exact length (2); 4; 5; 6; 7 or 8
+-- kind and place (3); exact length (2); 4; 5; 6; 14; 7 or 8
 unfoldable pub recordFault : ℕ → ℕ → Row → List ℕ → Walk → ℕ
 recordFault s from r b w =
     orElse (placeFault from (r .class) (w .at))
@@ -110,7 +110,7 @@ abbrev pub runDone : List ℕ → ℕ → Walk → Bool
 runDone bytes zero w = false
 runDone bytes (suc n) w = eqb (w .at - suc n) (length bytes)
 
--- k records at most; that there is one more is never met. Refusals 1 to 8 give the first byte of their record as the place
+-- k records at most; that there is one more is never met. Refusals 1 to 8 and 14 give the first byte of their record as the place
 unfoldable pub walkFrom : ℕ → ℕ → List ℕ → ℕ → Walk → Walked
 walkFrom zero s bytes from w = Broken (refusal (w .at) 4)
 walkFrom (suc k) s bytes from w =

@@ -1,6 +1,5 @@
 -- `records::fraction_fault` meets its contract: the front, then 14 by b0 and a1, then what the kind's own admission has found.
 use Rattle.whole.proofs.Basics.{_≡_, _∙_, refl, _≤_, arith, now, needs}
-use Rattle.formula.specs.Formula.{wordCount}
 use Rattle.formula.specs.Blank.{blankOf}
 use Rattle.formula.specs.declared.Kind.the-variants.{Fraction}
 use Rattle.table.specs.Table.{rows, firstRow, rowOf}

@@ -14,9 +14,9 @@ use Rattle.sheet.specs.declared.answers.Place.the-variants.{At as Stands
 
 -- ---- the count
 
-pub one-to-nine : (s : ℕ) (bytes : List ℕ) → Accepted s bytes ⊎ NotAccepted s bytes
+pub accepted-or-refused : (s : ℕ) (bytes : List ℕ) → Accepted s bytes ⊎ NotAccepted s bytes
 unfolding formulaCount
-one-to-nine s bytes = at (walkOf s bytes 0 noNumber) (numbered s bytes 0 noNumber)
+accepted-or-refused s bytes = at (walkOf s bytes 0 noNumber) (numbered s bytes 0 noNumber)
   where
     at : (r : Walked) → Numbered 0 r → (countNumber (countAnswer r) ≡ 0) ⊎ OneOf sheetRefusals (countNumber (countAnswer r))
     at (Whole c k) h = inl refl
