@@ -1,8 +1,8 @@
 """The paper's own cases (01, 'Checked by hand'), P or not, with the tie cases
 as request M-101 has them, and the listing's; then cases of odd and even
 formulas (request M-100), of ties (M-101), of sines and cosines (M-102), of the
-steps that roots take (M-103), of products from halves (M-104) and of marks
-(M-105), worked out by hand.
+steps that roots take (M-103), of products from halves (M-104), of marks
+(M-105) and of blank formulas (M-106), worked out by hand.
 
 A case is a formula, an argument or an angle where an answer is asked, and what
 is given: an answer word, a refusal number at the record, or accepted (0). A
@@ -11,7 +11,7 @@ a mark's case has the mark after it: exact (1) or rounded (0).
 """
 
 from formulas import EVEN, FRACTION, ODD, POLYNOMIAL, RATIONAL, ROOT, Formula
-from number import ONE
+from number import M, NO_WORD, ONE
 
 
 def ones(*coefficients):
@@ -162,8 +162,8 @@ ODD_AND_EVEN_ADMISSIONS = (
     (odd((1,), -WIDEST, WIDEST), 0),
     (even((1,), 0, WIDEST + 1), 7),
     (odd((1,), 0, WIDEST + 1), 7),
-    (even((0,), -WIDEST - 1, -WIDEST - 1), 7),
-    (odd((0,), -WIDEST - 1, 0), 7),
+    (even((-1,), -WIDEST - 1, -WIDEST - 1), 7),
+    (odd((-1,), -WIDEST - 1, 0), 7),
     (polynomial((1,), -WIDEST - 1, WIDEST + 1), 0),
     # B_0 = |c0| + S with S = M - 4: M, then M + 1.
     (even((4, ONE), -WIDEST, WIDEST), 0),
@@ -408,7 +408,7 @@ FIT = (
     odd((ONE,), 0, ONE + 1),
     odd((1,), -WIDEST, ONE),
     odd((1,), 0, WIDEST),
-    odd((0,), -ONE, 2 * ONE),
+    odd((0, 1), -ONE, 2 * ONE),
 )
 
 UNFIT = (
@@ -704,11 +704,11 @@ RATIONAL_MARKS = (
     (rational((0, ONE), ones(-2)), 2, -1, 1),
     (rational((0, ONE), ones(-2)), -2, 1, 1),
     (rational((0, ONE), ones(-2)), 3, -2, 0),
-    # 6 and 7 over -3, 0 over 3 steps.
+    # 6 and 7 over -3, 0 over 3 steps: a step times 0 is 0.
     (rational((6,), ones(-3)), 0, -2, 1),
     (rational((-6,), ones(-3)), 0, 2, 1),
     (rational((7,), ones(-3)), 0, -2, 0),
-    (rational((0,), (3,)), 0, 0, 1),
+    (rational((0, 1), (3,)), 0, 0, 1),
     # A step over 2 and over 3 steps: 2^24 / 2 is whole, and 2^24 / 3 is not.
     (rational((1,), (2,)), 0, 8388608, 1),
     (rational((1,), (-2,)), 0, -8388608, 1),
@@ -926,4 +926,333 @@ COSINE_MARKS = (
     (ODD_OF_TWO, 0xE0000001, 8126464, 0),
     (odd((ONE - 1, ONE), 0, ONE), 0xC0040000, 4096, 1),
     (odd((ONE - 1, ONE), 0, ONE), 0xC0040040, 4097, 0),
+)
+
+# Blank formulas (14). A case is a formula alone in its sheet, and what it is
+# refused by. The interval is -2 to 2 where none stands; where it is another,
+# or a word is large, that is for 6, 7 or 8.
+
+POLYNOMIAL_BLANKS = (
+    # All are 0: one, two, and the most there can be; on the smallest interval.
+    (polynomial((0,)), 14),
+    (polynomial((0, 0)), 14),
+    (polynomial((0,) * 16), 14),
+    (polynomial((0, 0), 0, 0), 14),
+    (odd((0,)), 14),
+    (odd((0, 0, 0)), 14),
+    (odd((0,) * 16), 14),
+    (even((0,)), 14),
+    (even((0, 0, 0)), 14),
+    (even((0,) * 16), 14),
+    # One alone is not 0: the only one, the first, one in the middle, the last.
+    (polynomial((1,)), 0),
+    (polynomial((1, 0)), 0),
+    (polynomial((0, -1, 0)), 0),
+    (polynomial((0, 0, 1)), 0),
+    (polynomial((0,) * 15 + (1,)), 0),
+    (odd((-1,)), 0),
+    (odd((-1, 0)), 0),
+    (odd((0, 1, 0)), 0),
+    (odd((0, 0, -1)), 0),
+    (even((1,)), 0),
+    (even((1, 0)), 0),
+    (even((0, 1, 0)), 0),
+    (even((0, 0, -1)), 0),
+    # -1 has every bit; the others have one or two bytes that are not 0.
+    (polynomial((-1, 0)), 0),
+    (polynomial((0x01000000, 0)), 0),
+    (polynomial((0, 0x00010000)), 0),
+    (odd((0x00000100,)), 0),
+    (odd((0, 0x00010000)), 0),
+    (even((0, 0x01000000)), 0),
+    (even((-0x01000000, 0)), 0),
+    # Sums of 0 make nothing blank.
+    (polynomial((1, -1)), 0),
+    (odd((ONE, -ONE)), 0),
+    (even((7, -4, -3)), 0),
+    # These give 0 at every argument, and yet are not blank: a step times 0,
+    # or times 2^-24, so 0; s is 0.
+    (polynomial((0, 1), 0, 0), 0),
+    (polynomial((0, 1), -1, 1), 0),
+    (odd((1,), 0, 0), 0),
+    (even((0, ONE), -1, 1), 0),
+    # 14 before 7: S would be above M. A polynomial of zeros has no bound above
+    # 0, so it is never refused by 7.
+    (odd((0,), 0, WIDEST + 1), 14),
+    (odd((0, 0), -M, M), 14),
+    (odd((1, 0), -M, M), 7),
+    (even((0,), -WIDEST - 1, -WIDEST - 1), 14),
+    (even((0, 0), -M, M), 14),
+    (even((0, -1), -M, M), 7),
+    (polynomial((0, 0), -M, M), 14),
+    # 6 before 14: an end that is no word, lo above hi. The one pattern that is
+    # no word is not 0 either, be it the only one that is not.
+    (polynomial((0, 0), 1, 0), 6),
+    (polynomial((0,), NO_WORD, 0), 6),
+    (polynomial((0,), 0, NO_WORD), 6),
+    (polynomial((NO_WORD,)), 6),
+    (polynomial((NO_WORD, 0)), 6),
+    (polynomial((0, 0, NO_WORD)), 6),
+    (odd((0, NO_WORD, 0)), 6),
+    (odd((0,), M, -M), 6),
+    (even((0, NO_WORD)), 6),
+    (even((0,), 1, 0), 6),
+)
+
+RATIONAL_BLANKS = (
+    # The numerator is all 0, over good divisors.
+    (rational((0,), ones(1)), 14),
+    (rational((0, 0), ones(8, 1)), 14),
+    (rational((0,) * 12, (-8 * ONE,) + (0,) * 11), 14),
+    (rational((0, 0, 0), (1,)), 14),
+    # One of the numerator is not 0.
+    (rational((1,), ones(1)), 0),
+    (rational((1, 0), ones(8, 1)), 0),
+    (rational((0, -1, 0), ones(8)), 0),
+    (rational((0, 0, 1), ones(8)), 0),
+    (rational((0x00010000,), ones(1)), 0),
+    (rational((0, -0x01000000), ones(8)), 0),
+    (rational((1, -1), ones(8)), 0),
+    (rational((0,) * 11 + (1,), ones(8)), 0),
+    # 14 before 8: L is 0; 0 less 2; 1 less 2.
+    (rational((0,), (0,)), 14),
+    (rational((0, 0), ones(0, 1)), 14),
+    (rational((0,), ones(1, 1)), 14),
+    # A divisor of zeros makes no formula blank: L is 0.
+    (rational((1,), (0,)), 8),
+    (rational((0, 1), (0, 0)), 8),
+    (rational((-1,), (0, 0, 0)), 8),
+    (rational((1,), ones(1, 1)), 8),
+    # 14 before 7: the divisor's B_0 would be M and 2 M.
+    (rational((0,), (M, M)), 14),
+    (rational((1,), (M, M)), 7),
+    # 7 and not 14: the numerator's bound comes before the divisor's 8.
+    (rational((0, M), (0,)), 7),
+    # 6 before 14: a divisor's word that is none; the numerator's only word
+    # that is not 0; the ends.
+    (rational((0,), (NO_WORD,)), 6),
+    (rational((0, 0), (ONE, NO_WORD)), 6),
+    (rational((0, NO_WORD), ones(1)), 6),
+    (rational((NO_WORD, 0), (0,)), 6),
+    (rational((0,), ones(1), 1, 0), 6),
+    (rational((0,), (0,), 0, NO_WORD), 6),
+)
+
+# In every mode; of the fractions the interval is -1 to 1 where none stands.
+FRACTION_BLANKS = tuple(
+    (fraction(mode, words, *(ends or (-ONE, ONE))), expected)
+    for mode in (0, 1, 2) for words, expected, *ends in (
+        # b0 and a1 are 0; the other terms, as many as there may be, do not
+        # count.
+        ((0, 0, ONE), 14),
+        ((0, 0, -1), 14),
+        (ones(0, 0, 8, 1, 8), 14),
+        (ones(0, 0, 8, -1, 8, 3, -8), 14),
+        ((0, 0) + ones(8, 1) * 11 + (8 * ONE,), 14),
+        ((0, 0, ONE), 14, 0, 0),
+        # Either is enough, of any size and sign.
+        ((1, 0, ONE), 0),
+        ((-1, 0, ONE), 0),
+        ((0, 1, ONE), 0),
+        ((0, -1, ONE), 0),
+        ((0x01000000, 0, ONE), 0),
+        ((0, 0x00010000, ONE), 0),
+        ((0, -0x01000000, ONE), 0),
+        ((1, -1, ONE), 0),
+        (ones(1, 0, 8, 0, 8), 0),
+        (ones(0, 1, 8, 0, 8), 0),
+        ((0, 1, ONE), 0, 0, 0),
+        # 14 before 8: the innermost b is 0; b1 is 0, and L is 0 less 1/8; L is
+        # 1 less 1.
+        ((0, 0, 0), 14),
+        (ones(0, 0, 8, 1, 0), 14),
+        (ones(0, 0, 0, 1, 8), 14),
+        (ones(0, 0, 1, 1, 1), 14),
+        # Those with b0 or a1: 8.
+        ((0, 1, 0), 8),
+        ((1, 0, 0), 8),
+        (ones(0, 1, 0, 1, 8), 8),
+        (ones(1, 0, 1, 1, 1), 8),
+        # 14 before 7: 1 over a step is 2^24 in ones.
+        ((0, 0, ONE, ONE, 1), 14),
+        ((1, 0, ONE, ONE, 1), 7),
+        ((0, 1, ONE, ONE, 1), 7),
+        # 6 before 14.
+        ((0, 0, NO_WORD), 6),
+        ((0, 0, ONE, NO_WORD, ONE), 6),
+        ((NO_WORD, 0, ONE), 6),
+        ((0, NO_WORD, ONE), 6),
+        ((0, 0, ONE), 6, 1, 0),
+        ((0, 0, 0), 6, NO_WORD, 0)))
+
+OTHER_BLANKS = (
+    # A mode of 3: 6 before 14.
+    (fraction(3, (0, 0, ONE)), 6),
+    (fraction(3, (0, 0, 0)), 6),
+    (fraction(3, (1, 0, ONE)), 6),
+    # 14 before 7: S, which mode 0 does not form.
+    (fraction(0, (0, 0, ONE), -M, M), 14),
+    (fraction(1, (0, 0, ONE), -M, M), 14),
+    (fraction(2, (0, 0, ONE), -M, M), 14),
+    (fraction(0, (1, 0, ONE), -M, M), 0),
+    (fraction(1, (1, 0, ONE), -M, M), 7),
+    (fraction(2, (1, 0, ONE), -M, M), 7),
+    # A root has no coefficients, and is never blank.
+    (SQUARE_ROOT, 0),
+    (SQUARE_ROOT._replace(hi=0), 0),
+    (SQUARE_ROOT._replace(lo=1, hi=1), 0),
+    (SQUARE_ROOT._replace(lo=-1, hi=0), 6),
+    # 2 before 14: no coefficient, and one too many; a numerator and a divisor
+    # of none; no depth.
+    (polynomial(()), 2),
+    (polynomial((0,) * 17), 2),
+    (odd((0,) * 17), 2),
+    (even(()), 2),
+    (rational((), (0,)), 2),
+    (rational((0,), ()), 2),
+    (rational((0,) * 13, ones(1)), 2),
+    (fraction(0, (0,)), 2),
+    (fraction(0, (0,) * 27), 2),
+)
+
+BLANKS = (*POLYNOMIAL_BLANKS, *RATIONAL_BLANKS, *FRACTION_BLANKS,
+          *OTHER_BLANKS)
+
+# Fields for the record writer, with words past the last, which do not count;
+# place 0.
+BLANK_FIELDS = (
+    # Two words of 0, and a third that is none of the polynomial's.
+    (polynomial((0, 0))._replace(words=(0, 0, 1)), 14),
+    (polynomial((0, 0))._replace(words=(0, 0, NO_WORD)), 14),
+    (polynomial((0, 0, 1))._replace(words=(0, 0, 1, 0)), 0),
+    (polynomial((0, 1))._replace(words=(0, 1, NO_WORD)), 0),
+    (odd((0,))._replace(words=(0, ONE, ONE)), 14),
+    (even((0,))._replace(words=(0, ONE, ONE)), 14),
+    (even((1,))._replace(words=(1, 0, 0)), 0),
+    # q and mode are not a polynomial's; nor is the mode a rational's.
+    (polynomial((0,))._replace(q=1, mode=3, words=(0, 1)), 14),
+    (rational((0,), ones(1))._replace(mode=3), 14),
+    # The divisor is no part of the numerator, nor is what follows it.
+    (rational((0,), ones(1))._replace(words=(0, ONE, ONE)), 14),
+    (rational((0, 0), ones(1))._replace(words=(0, 0, ONE, 5)), 14),
+    (rational((0, 0), (0,))._replace(words=(0, 0, 0, 5)), 14),
+    (rational((0, 5), (0,))._replace(words=(0, 5, 0, 5)), 8),
+    (rational((1,), ones(1))._replace(words=(1, ONE, 0)), 0),
+    # The terms past the depth, and those within it.
+    (fraction(0, (0, 0, ONE))._replace(words=(0, 0, ONE, 1, 1)), 14),
+    (fraction(0, (0, 0, ONE))._replace(q=3, words=(0, 0, ONE, 1, 1)), 14),
+    (fraction(0, (0, 1, ONE))._replace(words=(0, 1, ONE, 0, 0)), 0),
+    # No word of a root counts, nor its p.
+    (SQUARE_ROOT._replace(p=2, words=(0, 0)), 0),
+    (SQUARE_ROOT._replace(p=3, q=1, mode=2, hi=0, words=(0,) * 32), 0),
+    # 3 and 2 before 14.
+    (polynomial((0,))._replace(kind=0x0001), 3),
+    (polynomial((0,))._replace(kind=0xFFFF), 3),
+    (polynomial((0,))._replace(p=0), 2),
+    (polynomial((0,))._replace(p=65535), 2),
+    (rational((0,), ones(1))._replace(q=0), 2),
+    (fraction(0, (0, 0, ONE))._replace(p=13), 2),
+)
+
+
+def numbered(*formulas):
+    """Numbers 1, 2, 3, ..."""
+    return [formula._replace(number=i + 1)
+            for i, formula in enumerate(formulas)]
+
+
+BLANK = polynomial((0,))
+NOT_BLANK = polynomial((1,))
+
+# Sheets of several formulas, with the refusal and its place; the sheet writer
+# gives the same for a run of them. The first record is at 8. A root's is 16
+# bytes, a polynomial's of one coefficient 20, a rational's of two 28, a
+# fraction's of depth 1 32.
+BLANK_SHEETS = (
+    (numbered(NOT_BLANK), 0, 0),
+    (numbered(BLANK), 14, 8),
+    (numbered(BLANK, NOT_BLANK), 14, 8),
+    (numbered(NOT_BLANK, BLANK), 14, 28),
+    (numbered(SQUARE_ROOT, BLANK), 14, 24),
+    (numbered(SQUARE_ROOT, NOT_BLANK, BLANK), 14, 44),
+    (numbered(SQUARE_ROOT, BLANK, NOT_BLANK), 14, 24),
+    (numbered(NOT_BLANK, rational((1,), ones(1)), odd((0,))), 14, 56),
+    (numbered(rational((1,), ones(1)), rational((0,), ones(1))), 14, 36),
+    (numbered(fraction(0, (1, 0, ONE)), even((0, 0)), SQUARE_ROOT), 14, 40),
+    (numbered(fraction(0, (0, 1, ONE)), fraction(0, (0, 0, ONE))), 14, 40),
+    # The earlier record decides: both blank; 14 and then 6, 7 or 8; 6, 7 or 8
+    # and then 14.
+    (numbered(BLANK, BLANK), 14, 8),
+    (numbered(SQUARE_ROOT, BLANK, BLANK), 14, 24),
+    (numbered(BLANK, SQUARE_ROOT._replace(lo=-1)), 14, 8),
+    (numbered(BLANK, polynomial((M, M))), 14, 8),
+    (numbered(BLANK, rational((1,), (0,))), 14, 8),
+    (numbered(SQUARE_ROOT._replace(lo=-1), BLANK), 6, 8),
+    (numbered(polynomial((M, M)), BLANK), 7, 8),
+    (numbered(rational((1,), (0,)), BLANK), 8, 8),
+    # 5 before 14, and 14 before the next record's 5 or 2.
+    ([NOT_BLANK, BLANK], 5, 28),
+    ([NOT_BLANK, BLANK._replace(number=0)], 5, 28),
+    ([BLANK, NOT_BLANK], 14, 8),
+    (numbered(BLANK, polynomial(())), 14, 8),
+    (numbered(polynomial(()), BLANK), 2, 8),
+)
+
+# A sheet of three: a root, a polynomial of 2^24 and 5 steps, a root. Of 2^24
+# the highest byte alone is not 0; it is the one at 43.
+OF_THREE = bytes.fromhex(
+    "08000000 0100 0300"
+    "10000000 1300 0100 00000000 00000002"
+    "18000000 1000 0200 000000FF 00000001 00000001 05000000"
+    "10000000 1300 0300 00000000 00000002"
+    "08000000 FFFF 0300")
+
+# Bytes, with the refusal and its place.
+BLANK_BYTES = (
+    (OF_THREE, 0, 0),
+    # Zeros from a place on. From the third record, or from the second's last
+    # coefficient, the third's length is 0. From the second's first coefficient
+    # it is blank; from hi, which is then 0 beside a lo of -1, and from lo, it
+    # is too. Then its number, its kind and its length are 0.
+    (OF_THREE[:48] + bytes(24), 2, 48),
+    (OF_THREE[:45] + bytes(27), 2, 48),
+    (OF_THREE[:44] + bytes(28), 2, 48),
+    (OF_THREE[:43] + bytes(29), 14, 24),
+    (OF_THREE[:40] + bytes(32), 14, 24),
+    (OF_THREE[:36] + bytes(36), 14, 24),
+    (OF_THREE[:32] + bytes(40), 14, 24),
+    (OF_THREE[:30] + bytes(42), 5, 24),
+    (OF_THREE[:28] + bytes(44), 3, 24),
+    (OF_THREE[:24] + bytes(48), 2, 24),
+    # Zeros in the second record's coefficients alone: in both; in either.
+    (OF_THREE[:40] + bytes(8) + OF_THREE[48:], 14, 24),
+    (OF_THREE[:40] + bytes(4) + OF_THREE[44:], 0, 0),
+    (OF_THREE[:44] + bytes(4) + OF_THREE[48:], 0, 0),
+    # The same with bytes after the end, or without the end: 14 before 9 and 1.
+    (OF_THREE[:40] + bytes(8) + OF_THREE[48:] + b"\0", 14, 24),
+    (OF_THREE[:40] + bytes(8) + OF_THREE[48:64], 14, 24),
+    (OF_THREE[:40] + bytes(8), 14, 24),
+    # Without its last byte the record breaks off: 1 before 14.
+    (OF_THREE[:40] + bytes(7), 1, 24),
+    # The start counts a formula less: the second is one too many, 4 before
+    # 14. It counts 65: 4 at the start.
+    (b"\x08\0\0\0\1\0\1\0" + OF_THREE[8:40] + bytes(32), 4, 24),
+    (b"\x08\0\0\0\1\0\x41\0" + OF_THREE[8:40] + bytes(32), 4, 0),
+)
+
+# Sine and cosine of odd formulas, at any angle: 14 comes before 11 and 15. A
+# case is a formula, the number asked for, and what is given.
+BLANK_TURNS = (
+    (odd((0,), 0, ONE), 1, 14),
+    (odd((0, 0), -ONE, ONE), 1, 14),
+    (odd((0, 0), -ONE, ONE), 2, 14),
+    (odd((0,), 0, ONE - 1), 1, 14),
+    (even((0,), 0, ONE), 1, 14),
+    (odd((1,), 0, ONE), 1, 0),
+    (odd((0, 1), 0, ONE), 1, 0),
+    (odd((0, -0x01000000), -ONE, ONE), 1, 0),
+    (odd((0, 1), -ONE, ONE), 2, 11),
+    (odd((0, 1), 0, ONE - 1), 1, 15),
+    (even((0, 1), 0, ONE), 1, 15),
+    (SQUARE_ROOT, 1, 15),
 )

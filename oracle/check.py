@@ -9,6 +9,7 @@ from fractions import Fraction
 from pathlib import Path
 from random import Random
 
+import check_blanks
 import check_marks
 import groups_halves
 import slow
@@ -593,11 +594,11 @@ def refused_by_values():
         *((one + polynomial_record(5, (M, 1), kind=kind) + end, 7, 8)
           for kind in POLYNOMIALS),
         (one + rational_record(5, 2, 1, (M, 1, 0)) + end, 7, 8),
-        (one + rational_record(5, 1, 2, (0, M, 1)) + end, 7, 8),
+        (one + rational_record(5, 1, 2, (1, M, 1)) + end, 7, 8),
         (one + rational_record(5, 1, 2, (128, 1, 1)) + end, 8, 8),
         (one + rational_record(5, 1, 2, (128, 2, 1)) + end, 7, 8),
-        (one + fraction_record(5, 1, 1, (0, 0, 0), -M, M) + end, 7, 8),
-        (one + fraction_record(5, 2, 1, (0, 0, 1), -M, M) + end, 7, 8),
+        (one + fraction_record(5, 1, 1, (1, 0, 0), -M, M) + end, 7, 8),
+        (one + fraction_record(5, 2, 1, (1, 0, 1), -M, M) + end, 7, 8),
         (one + fraction_record(5, 0, 1, (0, M, 0), -M, M) + end, 8, 8),
         (one + fraction_record(5, 0, 1, (0, M, 1), -M, M) + end, 7, 8))
 
@@ -612,7 +613,7 @@ def check_order(tally, rng):
                   *(one + polynomial_record(5, (1,) * m, kind=kind) + end
                     for kind in POLYNOMIALS for m in (1, 16)),
                   one + rational_record(5, 1, 2, (127, 2, 1)) + end,
-                  one + fraction_record(5, 0, 1, (0, 0, 1), -M, M) + end):
+                  one + fraction_record(5, 0, 1, (1, 0, 1), -M, M) + end):
         tally.same(f"sheet {sheet.hex()}", outcome(formula_count, sheet), 1)
     most = framing(START, 64) + b"".join(map(root_record, range(64)))
     end = framing(END, 64)
@@ -771,7 +772,7 @@ def check_record_writer(tally, rng):
             *((good._replace(kind=kind, p=p, lo=NO_WORD), 0, 2)
               for kind in POLYNOMIALS for p in (0, 17)),
             (good._replace(kind=ODD, lo=M, hi=-M), 0, 6),
-            (good._replace(kind=EVEN, lo=0, hi=M, words=(0, 0)), 0, 7),
+            (good._replace(kind=EVEN, lo=0, hi=M, words=(1, 0)), 0, 7),
             (good._replace(kind=ODD, lo=0, hi=2 * ONE, words=(M, 0)), 0, 7)):
         found = answer_to(*ask_record(fields, room))
         expected = number, bytes(4), 4 * b"\0" + buffer_beforehand(room)
@@ -828,11 +829,11 @@ STEPS_AT = {EVALUATE: 9, DOUBLE: 13, SINE: 9, COSINE: 9}
 # What the vectors have to meet: in each question, the refusals; the kinds that
 # are accepted (0) or refused by 15; the steps and the marks, beside a refusal
 # (True) and not.
-SHEETS = range(10)
+SHEETS = *range(10), 14
 REFUSALS_MET = {
     COUNT: {*SHEETS}, FORMULA: {*SHEETS, 11}, EVALUATE: {*SHEETS, 10, 11},
     DOUBLE: {*SHEETS, 10, 11, 13}, INTERVAL: {*SHEETS, 11},
-    RECORD: {0, 2, 3, 6, 7, 8, 12}, SHEET: {*range(9), 12},
+    RECORD: {0, 2, 3, 6, 7, 8, 12, 14}, SHEET: {*range(9), 12, 14},
     SINE: {*SHEETS, 11, 15}, COSINE: {*SHEETS, 11, 15}}
 KINDS_MET = {*((question, 0, kind) for question in range(1, 8)
                for kind in KINDS),
@@ -881,7 +882,7 @@ CHECKS = (check_by_hand, check_rounding, check_rounding_by_hand,
           check_order, check_questions, check_values_as_bytes,
           check_order_of_15, check_ends, check_round_trips,
           check_record_writer, check_sheet_writer, *check_marks.CHECKS,
-          check_vectors)
+          *check_blanks.CHECKS, check_vectors)
 
 
 def main():

@@ -7,7 +7,8 @@ The oracle, not this table, says which refusal a spoilt sheet really gets.
 from itertools import combinations
 from struct import unpack_from
 
-from formulas import FRACTION, POLYNOMIAL, POLYNOMIALS, RATIONAL, SHAPES
+from formulas import (
+    FRACTION, POLYNOMIAL, POLYNOMIALS, RATIONAL, SHAPES, decisive_count)
 from makers import framed, records_of, with_field
 from number import M, NO_WORD
 from sheet import END, START
@@ -107,15 +108,22 @@ def lo_above_hi(draft):
     field(HI_AT, "i", -M)(draft)
 
 
-def widest(kind, word):
-    """The widest interval, and every coefficient the same word."""
-    head = SHAPES[kind].head
+def words_at(head, *words):
+    """Coefficients from the first on; the last of these words is put into all
+    that are left."""
+    def spoil(draft):
+        places = range(head, len(draft.record) - 3, 4)
+        for i, at in enumerate(places):
+            field(at, "i", words[min(i, len(words) - 1)])(draft)
+    return spoil
 
+
+def widest(kind, *words):
+    """The widest interval, and these coefficients."""
     def spoil(draft):
         field(LO_AT, "i", -M)(draft)
         field(HI_AT, "i", M)(draft)
-        for at in range(head, len(draft.record) - 3, 4):
-            field(at, "i", word)(draft)
+        words_at(SHAPES[kind].head, *words)(draft)
     return spoil
 
 
@@ -145,7 +153,7 @@ def own_faults(kind, p):
     """Faults of one formula kind; a rational's p says where its divisor is."""
     head = SHAPES[kind].head
     if kind in POLYNOMIALS:
-        s_alone = [] if kind == POLYNOMIAL else [(7, widest(kind, 0))]
+        s_alone = [] if kind == POLYNOMIAL else [(7, widest(kind, 1, 0))]
         return [(7, widest(kind, M)), *s_alone,
                 (6, field(head, "i", NO_WORD)), (2, resized(-4 * p)),
                 (2, resized(4 * (17 - p)))]
@@ -175,6 +183,22 @@ def run_faults(kind, p):
 def formula_faults(kind, p):
     """Faults at a formula record of a sheet."""
     return [(9, after_the_end), (4, one_too_many)] + run_faults(kind, p)
+
+
+def made_blank(kind, p):
+    """The words that must not all be 0 are 0 (request M-106)."""
+    def spoil(draft):
+        for i in range(decisive_count(kind, p)):
+            field(SHAPES[kind].head + 4 * i, "i", 0)(draft)
+    return spoil
+
+
+def beside_a_blank(kind, p, faults):
+    """Each fault in a record that is blank as well, put in before or after, so
+    that it does not undo that."""
+    blank = 14, made_blank(kind, p)
+    for fault in faults:
+        yield [fault, blank] if fault[0] in (7, 8) else [blank, fault]
 
 
 def each_fault(formulas):

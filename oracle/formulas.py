@@ -1,8 +1,9 @@
-"""The six formula kinds: their shape, their answer and their admission.
+"""The six formula kinds: their shape, their answer and their admission; and
+which formulas are blank.
 
 Paper 01, 'Formula kinds', 'Admission' and the table of 'Sheet layout'; the odd
 and the even polynomial are of request M-100, the steps of M-103, the mark of
-M-105.
+M-105, blank formulas of M-106.
 """
 
 from typing import NamedTuple
@@ -80,6 +81,20 @@ def values_are_good(formula):
         and formula.mode <= 2
         and (formula.kind != ROOT or formula.lo >= 0)
     )
+
+
+def decisive_count(kind, p):
+    """How many words, from the first on, must not all be 0: a polynomial's
+    coefficients, a rational's numerator, b0 and a1 of a fraction; a root has
+    none."""
+    return 2 if kind == FRACTION else p
+
+
+def is_blank(formula):
+    """Refusal 14 is given where this holds (request M-106). A root is never
+    blank."""
+    count = decisive_count(formula.kind, formula.p)
+    return formula.kind != ROOT and not any(formula.words[:count])
 
 
 # Answers ('Formula kinds'). Every number on the way has a mark: it is exact
@@ -236,5 +251,8 @@ def admission(formula):
 
 
 def verdict(formula):
-    """0, or the refusal 6, 7 or 8 of a formula whose counts are in range."""
-    return admission(formula) if values_are_good(formula) else 6
+    """0, or the refusal of a formula whose counts are in range: 6, then 14,
+    then 7 or 8."""
+    if not values_are_good(formula):
+        return 6
+    return 14 if is_blank(formula) else admission(formula)

@@ -5,7 +5,7 @@ from door import pattern_of
 from formulas import (
     EVEN, FRACTION, ODD, POLYNOMIAL, RATIONAL, SHAPES, Formula, verdict,
     word_count)
-from groups_numbers import fraction, judged, polynomial, rational
+from groups_numbers import fraction, judged, polynomial, rational, times
 from groups_writers import needed
 from makers import (
     EVERY_CARRY, MODES, SEAMS, arguments, halves_that_carry, halves_together,
@@ -34,7 +34,7 @@ def products_by_hand(rng):
 
 def products_of(rng, c, x):
     """The product of c, of either sign, and x, and that of it and -x."""
-    sheet = sheet_of([polynomial((0, signed(rng, c)), -x, x)])
+    sheet = sheet_of([times(signed(rng, c), x)])
     for argument in (x, -x):
         yield ask_evaluate(sheet, 1, argument)
 
@@ -231,7 +231,7 @@ def as_term(c, a):
 def as_inner_term(c, a):
     """L is 1 or 0 (8) in a fraction of depth 2, or b1 plus Q above M (7)."""
     q = bound_product(c, a)
-    return [fraction((0, 0, b, c, ONE), 0, 0, a)
+    return [fraction((1, 0, b, c, ONE), 0, 0, a)
             for b in (q + 1, q) if b <= M]
 
 
@@ -318,7 +318,7 @@ def limits_of_squares(rng):
             yield put(rng, fraction((n, ONE, ONE), 1, 0, a))
         for b in (s, s + 1):
             if b + s <= M:
-                yield put(rng, fraction((0, 0, b, ONE, ONE), 2, 0, a))
+                yield put(rng, fraction((1, 0, b, ONE, ONE), 2, 0, a))
         c = most_beside(a)
         for n in (c, c + 1):
             if n <= M:

@@ -7,7 +7,7 @@ from faults import each_fault
 from formulas import EVEN, FRACTION, ODD, POLYNOMIAL, RATIONAL, ROOT, SHAPES
 from groups_halves import RESTS
 from groups_numbers import (
-    INFINITY, MINUS_ZERO, both_signs, fraction, polynomial, rational)
+    INFINITY, MINUS_ZERO, both_signs, fraction, polynomial, rational, times)
 from groups_roots import ANY_ROOT_SHEET, about, both
 from makers import (
     KINDS_AND_MODES, MODES, SQUARES_LESS_ONE, about_its_turn, few_places,
@@ -222,8 +222,8 @@ def rests_of_products(rng):
     bits = (1 << bit for bit in range(24))
     for rest in (0,) * 24 + (*bits, *RESTS):
         c, x = leaving(rng, rest)
-        formula = polynomial((0, signed(rng, c)), -x, x)
-        if x <= WIDEST and rng.randrange(2):
+        formula = times(signed(rng, c), x)
+        if x <= WIDEST and rng.randrange(2) and c != 0:
             formula = polynomial((signed(rng, c),), -x, x, ODD)
         for argument in (x, -x):
             yield ask_evaluate(sheet_of([formula]), 1, argument)
@@ -336,7 +336,7 @@ def unused_doubles(rng):
     at one that is not."""
     for _ in range(12):
         x = word_of_digits(rng, 2 + rng.randrange(24))
-        c = signed(rng, size(rng))
+        c = signed(rng, size(rng) or 1)
         for formula in (polynomial((c,), -x, x), polynomial((c,), -x, x, EVEN),
                         rational((c,), (-ONE,), -x, x)):
             for pattern in doubles_about(x)[:3]:

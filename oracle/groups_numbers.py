@@ -31,6 +31,12 @@ def fraction(words, mode, lo, hi):
     return Formula(FRACTION, 1, lo, hi, len(words) // 2, 0, mode, tuple(words))
 
 
+def times(c, x):
+    """The product of c and the argument, on -x to x, and a step more where c
+    is 0: no formula is blank."""
+    return polynomial((0 if c else 1, c), -x, x)
+
+
 def judged(rng, formula):
     """The count, and an answer at a place of the interval, mostly an end."""
     sheet = sheet_of([formula])
@@ -93,7 +99,8 @@ def last_products(rng):
 
 def squares_alone(rng):
     """S at its largest and above M (7), for one coefficient and for more, at
-    either end or both; a polynomial does not form it."""
+    either end or both; a polynomial does not form it. With one coefficient of
+    0 the formula is blank (14), whatever S is."""
     a = WIDEST
     for lo, hi in ((-a, a), (-a, 0), (0, a), (a, a), (-a - 1, 0), (0, a + 1),
                    (-a - 1, a), (a + 1, a + 1), (-M, M), (0, M)):
@@ -113,7 +120,8 @@ def values_between_the_ends(rng):
 
 def rational_limits(rng):
     """L of a rational at 2, 1, 0 and -1 (8), under numerators at the bound
-    quotient's limit, one step above it (7) and beyond their own bounds (7)."""
+    quotient's limit, one step above it (7) and beyond their own bounds (7).
+    Where L is below 1 that limit is 0, and the formula blank (14)."""
     for _ in range(60):
         upper = good_formula(rng, POLYNOMIAL, p=1 + rng.randrange(6))
         lo, hi, a = upper.lo, upper.hi, largest(upper)
@@ -122,7 +130,7 @@ def rational_limits(rng):
             if 0 <= taken + least <= M:
                 divisor = (signed(rng, taken + least), *upper.words)
                 limit = M * max(least, 0) // ONE
-                for n in ((limit,), (limit + 1,), (M, M), (0, 0)):
+                for n in ((limit,), (limit + 1,), (M, M), (0, 1)):
                     yield from judged(rng, rational(n, divisor, lo, hi))
 
 
@@ -538,7 +546,7 @@ def doubles_through_formulas(rng):
         for argument in arguments(rng, formula):
             yield ask_double(sheet, 1, pattern_of(argument))
     for kind in POLYNOMIALS:
-        for words in ((0,), (0, 0), (0, 1), (0, -1)):
+        for words in ((0, 0, 1), (0, 0, -1), (0, 1), (0, -1)):
             sheet = sheet_of([polynomial(words, -ONE // 4, ONE // 4, kind)])
             for argument in (-ONE // 4, -1, 0, 1, ONE // 4):
                 yield ask_double(sheet, 1, pattern_of(argument))

@@ -258,7 +258,7 @@ def stored_values(rng):
     for formula in (*(Formula(kind, 9, 0, 0, 1, 0, 0, (1,))
                       for kind in POLYNOMIALS),
                     Formula(RATIONAL, 9, 0, 0, 1, 1, 0, (1, 1)),
-                    Formula(FRACTION, 9, 0, 0, 1, 0, 0, (0, 0, 1)),
+                    Formula(FRACTION, 9, 0, 0, 1, 0, 0, (1, 0, 1)),
                     Formula(ROOT, 9, 0, 0, 0, 0, 0, ())):
         for lo in edges:
             for hi in edges:

@@ -98,7 +98,8 @@ def field_faults(formula):
     if kind != ROOT:
         faults += [(7, changed(lo=-M, hi=M, words=(M,) * FIELD_WORDS))]
     if kind in (ODD, EVEN):
-        faults += [(7, changed(lo=-M, hi=M, words=(0,) * FIELD_WORDS))]
+        faults += [(7, changed(lo=-M, hi=M,
+                               words=(1,) + (0,) * (FIELD_WORDS - 1)))]
     if kind == RATIONAL:
         faults += [(8, word_changed(p, 0)), (2, changed(q=13))]
     if kind == FRACTION:

@@ -1,6 +1,7 @@
 """Makers of words, formulas, angles and sheets for the vectors, from a
 random.Random; arguments of roots, drawn or found; factors at the seams of
-their halves; formulas of which it is known what is rounded.
+their halves; formulas of which it is known what is rounded; formulas that are
+blank, or nearly so.
 
 Only whole-number draws are used (getrandbits, randrange, choice).
 """
@@ -10,7 +11,8 @@ from typing import NamedTuple
 
 from formulas import (
     EVEN, FRACTION, ODD, POLYNOMIAL, RATIONAL, ROOT, SHAPES, Formula, answer,
-    bounds, factor, polynomial, unrounded, verdict, word_count)
+    bounds, decisive_count, factor, is_blank, polynomial, unrounded, verdict,
+    word_count)
 from number import (
     M, ONE, bound_product, bound_quotient, product, quotient, root)
 from sheet import END, START
@@ -155,15 +157,18 @@ def thinned(words, powers):
 
 
 def formula_of_form(rng, kind, powers, mode):
-    """A formula about 0, of a form; accepted unless its divisor is odd, since
-    zeros put in make no bound larger."""
-    drawn = good_formula(rng, kind, mode=mode)
-    a, p = largest(drawn), drawn.p
-    words = thinned(drawn.words[:p], powers[0])
-    words += thinned(drawn.words[p:], powers[1])
-    if mode == 2:
-        words = 0, *words[1:]
-    return drawn._replace(lo=-a, hi=a, words=words)
+    """A formula about 0, of a form, that is not blank; accepted unless its
+    divisor is odd, since zeros put in make no bound larger."""
+    while True:
+        drawn = good_formula(rng, kind, mode=mode)
+        a, p = largest(drawn), drawn.p
+        words = thinned(drawn.words[:p], powers[0])
+        words += thinned(drawn.words[p:], powers[1])
+        if mode == 2:
+            words = 0, *words[1:]
+        formula = drawn._replace(lo=-a, hi=a, words=words)
+        if not is_blank(formula):
+            return formula
 
 
 def twos(n):
@@ -615,6 +620,40 @@ def about_its_turn(rng, kind):
     even = rng.randrange(-2048, 2048) << 13
     words = (even + k * side**2, -k * (4 * ONE + side**2), 4 * k * ONE)
     return Formula(kind, 1, -(side << 11), side << 11, 3, 0, 0, words)
+
+
+# Blank formulas, and nearly blank ones (request M-106).
+
+# Sizes of which one byte alone is not 0.
+SPARSE = (1, 0x80, 0x100, 0x8000, 0x10000, 0x800000, ONE, 0x40000000,
+          0x7F000000)
+
+
+def blanked(formula):
+    """The formula made blank, and a root as it is. Zeros put in make no bound
+    larger, and no divisor nearer to 0."""
+    count = decisive_count(formula.kind, formula.p)
+    return formula._replace(words=(0,) * count + formula.words[count:])
+
+
+def with_word(formula, i, value):
+    """The formula with one of its words replaced."""
+    words = formula.words
+    return formula._replace(words=(*words[:i], value, *words[i + 1:]))
+
+
+def blank_formula(rng, kind, number=1, p=None, q=None, mode=None):
+    """A formula, not a root, that is accepted but for its being blank."""
+    return blanked(good_formula(rng, kind, number, p, q, mode))
+
+
+def nearly_blank(rng, kind, i, value, number=1, p=None, q=None, mode=None):
+    """An accepted formula that would be blank, but for its i-th word."""
+    while True:
+        formula = with_word(
+            blank_formula(rng, kind, number, p, q, mode), i, value)
+        if verdict(formula) == 0:
+            return formula
 
 
 def good_formulas(rng, count):

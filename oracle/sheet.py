@@ -1,6 +1,7 @@
 """Reading a sheet (paper 01, 'Sheet layout' and 'Refusal numbers').
 
-A polynomial, an odd and an even formula are laid out alike (request M-100).
+A polynomial, an odd and an even formula are laid out alike (request M-100). A
+blank formula is refused by 14, which counts among 1 to 8 (M-106).
 """
 
 from struct import unpack_from
@@ -71,7 +72,8 @@ def formula_in(record, place):
 def next_formula(record, place, before, most):
     """The formula in a record after those `before`, at most `most` in all.
 
-    The order is: exact length (2), one too many (4), number (5), 6, 7 or 8.
+    The order is: exact length (2), one too many (4), number (5), 6, 14, 7 or
+    8.
     """
     formula = formula_in(record, place)
     if len(before) == most:

@@ -457,6 +457,39 @@ def admission(formula):
     return 0
 
 
+# Blank formulas (request M-106).
+
+
+def is_bad(formula):
+    """'A stored value is no word, lo above hi, mode above 2, or a root with lo
+    below 0.'"""
+    return (-2**31 in (formula.lo, formula.hi, *formula.words)
+            or formula.lo > formula.hi
+            or formula.mode not in (0, 1, 2)
+            or formula.kind == ROOT and formula.lo < 0)
+
+
+def is_blank(formula):
+    """'A polynomial (odd and even included) whose coefficients are all zero, a
+    rational whose numerator is all zero, or a fraction with b0 and a1 both
+    zero.'"""
+    if formula.kind in POLYNOMIALS:
+        return set(formula.words) == {0}
+    if formula.kind == RATIONAL:
+        return set(formula.words[:-formula.q]) == {0}
+    if formula.kind == FRACTION:
+        b0, a1, *_ = formula.words
+        return b0 == 0 and a1 == 0
+    return False
+
+
+def verdict(formula):
+    """'14, directly after 6.'"""
+    if is_bad(formula):
+        return 6
+    return 14 if is_blank(formula) else admission(formula)
+
+
 def value(pattern):
     """The exact value of a finite double, from sign, exponent and fraction."""
     bits = f"{pattern:064b}"

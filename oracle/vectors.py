@@ -10,6 +10,7 @@ from pathlib import Path
 from random import Random
 from struct import pack, unpack_from
 
+import groups_blanks
 import groups_halves
 import groups_marks
 import groups_numbers
@@ -23,7 +24,7 @@ SEED = 1967
 
 GROUPS = (*groups_sheets.GROUPS, *groups_numbers.GROUPS,
           *groups_writers.GROUPS, *groups_turns.GROUPS, *groups_roots.GROUPS,
-          *groups_halves.GROUPS, *groups_marks.GROUPS)
+          *groups_halves.GROUPS, *groups_marks.GROUPS, *groups_blanks.GROUPS)
 
 
 def vector(question, content):

@@ -46,7 +46,7 @@ def put(output, buffer):
 
 
 def write_record(fields, buffer):
-    """3, then 2, 6, 7 or 8, then 12, all at place 0."""
+    """3, then 2, 6, 14, 7 or 8, then 12, all at place 0."""
     if fields.kind not in SHAPES:
         raise Refused(3)
     formula = own_fields(fields)
