@@ -218,6 +218,18 @@ static void prepare(formula *f) {
     }
 }
 
+/* Formulas of each kind, with more and more zeros before their other words: blank from as many on as make them so. */
+static void blanks(void) {
+    for (const formula *f = formulas; f < formulas + KINDS; f++) {
+        vp_fields fields = f->fields;
+        int enough = f->kind == VP_ROOT ? 33 : f->kind == VP_FRACTION ? 2 : fields.p;
+        for (int n = 1; n <= 32; n++) {
+            fields.words[n - 1] = 0;
+            REFUSED(n < enough ? 0 : VP_BLANK_FORMULA, written, write_record, fields, out, ROOM);
+        }
+    }
+}
+
 /* Ties, of which the rows have hardly one, for each pair of signs: of the double, of its product with a step, of that step by two. */
 static void ties(void) {
     static formula tie = {"ties", VP_RATIONAL, 1, {VP_RATIONAL, 1, -16777216, 16777216, 2, 1, 0, {0, 1}}};
@@ -273,6 +285,7 @@ int main(int count, char **words) {
     pad(&formulas[ODD].fields);
     prepare(&padded);
     refusals();
+    blanks();
     ties();
     for (int i = 0; i < SLICE; i++) angles[i] = (uint32_t)drawn();
     turns();

@@ -121,6 +121,13 @@ static inline int words(const uint8_t *p, uint32_t n) {
     return !bad;
 }
 
+/* Whether the first n coefficients, one or more, are all 0. Mostly the first is not. */
+static inline int zeros(const uint8_t *c, uint32_t n) {
+    if (u32(c)) return 0;
+    while (--n) if (u32(c += 4)) return 0;
+    return 1;
+}
+
 /* A formula's values: lo, hi, and n coefficients; m and q count them, or m is the depth. With six kinds clang has to be told to
    inline it. */
 __attribute__((always_inline))
@@ -128,10 +135,10 @@ static inline uint32_t check_values(uint32_t kind, int32_t lo, int32_t hi, const
     if (lo == INT32_MIN || hi == INT32_MIN || !words(c, n) || lo > hi || mode > 2 || (kind == VP_ROOT && lo < 0)) return VP_WRONG_VALUE;
     uint64_t a = size(lo) > size(hi) ? size(lo) : size(hi), second;
     switch (kind) {
-    case VP_POLYNOMIAL: return polynomial_bound(c, m, a, &second) > MOST ? VP_RANGE_LEFT : 0;
-    case VP_RATIONAL: return admit_rational(c, m, q, a);
-    case VP_FRACTION: return admit_fraction(c, mode, m, a);
-    default: return kind == VP_ROOT ? 0 : admit_square(c, m, a, kind == VP_ODD);
+    case VP_POLYNOMIAL: return zeros(c, m) ? VP_BLANK_FORMULA : polynomial_bound(c, m, a, &second) > MOST ? VP_RANGE_LEFT : 0;
+    case VP_RATIONAL: return zeros(c, m) ? VP_BLANK_FORMULA : admit_rational(c, m, q, a);
+    case VP_FRACTION: return zeros(c, 2) ? VP_BLANK_FORMULA : admit_fraction(c, mode, m, a);
+    default: return kind == VP_ROOT ? 0 : zeros(c, m) ? VP_BLANK_FORMULA : admit_square(c, m, a, kind == VP_ODD);
     }
 }
 

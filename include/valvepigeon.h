@@ -16,8 +16,9 @@
 
    Answers. Each result begins with `refused`, 0 or the number of the refusal, and `place`. When refused, every field after
    these two is 0 (a double is plus zero) and no byte of a lent buffer has changed; when not, `refused` and `place` are 0.
-   Refusals 1 to 8 give the first byte of their record as the place, 9 the first byte too many, the others 0. The record writer
-   gives place 0 always. In the sheet writer places count from the new sheet's first byte, so the run begins at 8. */
+   Refusals 1 to 8 and 14, which comes directly after 6, give the first byte of their record as the place, and 9 the first byte too
+   many: these are the sheet's own, and come before any other. The others give place 0, and so does the record writer always. In the
+   sheet writer places count from the new sheet's first byte, so the run begins at 8. */
 #ifndef VALVEPIGEON_H
 #define VALVEPIGEON_H
 
@@ -41,9 +42,11 @@ extern "C" {
 
    With 2.1.0 both have `exact`, in bytes behind `steps` that were padding. So their sizes and the places of the other fields stay,
    and a program compiled with a header of 2.0.0 or later works as before, with the archive and with the shared library. The other
-   way round nothing is known of those bytes: a program that reads `exact` needs a library of 2.1.0 or later. */
-#define VP_VERSION 20100
-#define VP_VERSION_STRING "2.1.0"
+   way round nothing is known of those bytes: a program that reads `exact` needs a library of 2.1.0 or later.
+
+   With 2.2.0 a blank formula is refused, by 14: a sheet that has one was accepted before. */
+#define VP_VERSION 20200
+#define VP_VERSION_STRING "2.2.0"
 
 /* Sizes: the most bytes of a record, the bytes that a sheet adds to its run of records, and the most formulas of a sheet. */
 #define VP_LONGEST_RECORD 120
@@ -67,6 +70,8 @@ extern "C" {
 #define VP_NO_SUCH_FORMULA 11     /* no formula has that number */
 #define VP_BUFFER_TOO_SHORT 12    /* the output buffer is too short */
 #define VP_NOT_FINITE 13          /* the double is infinite or not a number */
+#define VP_BLANK_FORMULA 14       /* the formula is blank and could only answer 0: all its coefficients are 0, or all those of its
+                                     numerator, or a fraction's b0 and a1 */
 #define VP_NO_SINE 15             /* the formula is not of the kind odd, or its interval does not hold 0 to one */
 
 /* The kinds of formula records, as `kind` has them. */
@@ -146,14 +151,14 @@ typedef struct {
     uint64_t length;
 } vp_written;
 
-/* How many formulas the sheet has. Refusals 1 to 9. */
+/* How many formulas the sheet has. The sheet's own refusals. */
 vp_counted vp_count(const uint8_t *sheet, size_t length);
 
-/* The sheet's formula of that number. Refusals 1 to 9, then 11. */
+/* The sheet's formula of that number. The sheet's own refusals, then 11. */
 vp_found vp_formula(const uint8_t *sheet, size_t length, uint16_t number);
 
 /* What the sheet's formula of that number answers at `argument`, a word: the word that the rule on paper gives, each product and
-   quotient rounded to the nearest whole number, a tie going away from zero. Refusals 1 to 9, then 11, 10.
+   quotient rounded to the nearest whole number, a tie going away from zero. The sheet's own refusals, then 11, 10.
 
    A root is worked by Heron's rule. With v the argument times 2^24 and b the number of v's binary digits, it begins with 2 to the
    power of b/2, that exponent rounded up; each step replaces the number w by the whole part of half of (w plus the whole part of
@@ -172,8 +177,8 @@ vp_worked vp_evaluate(const uint8_t *sheet, size_t length, uint16_t number, int3
 
 /* The same for a double. The argument's exact value times 2^24 is rounded as a product is, and `steps` are those at that word; where
    the rounded value is no word or lies outside the interval, 10. `exact` is 1 where the answer at that word is exact and the
-   argument's value times 2^24 was a whole number, as for -0.0; else 0, also where the answer does not use the argument. Refusals 1
-   to 9, then 11, 13, 10. */
+   argument's value times 2^24 was a whole number, as for -0.0; else 0, also where the answer does not use the argument. The sheet's
+   own refusals, then 11, 13, 10. */
 vp_shown vp_evaluate_double(const uint8_t *sheet, size_t length, uint16_t number, double argument);
 
 /* The sine of an angle, by the sheet's formula of that number, which has to be of the kind odd and to hold 0 to one in its
@@ -182,18 +187,18 @@ vp_shown vp_evaluate_double(const uint8_t *sheet, size_t length, uint16_t number
    as at half a turn minus the angle; in the third and the fourth the answer is that at half a turn less, negated. So for every
    angle, exactly: half a turn more negates the sine, half a turn minus the angle keeps it, and the negated angle negates it.
    `steps` is 0. `exact` is 1 where the formula's answer is exact and the angle is a multiple of 64, so that its division was not
-   rounded; else 0. Refusals 1 to 9, then 11, 15; no angle is refused. */
+   rounded; else 0. The sheet's own refusals, then 11, 15; no angle is refused. */
 vp_worked vp_sine(const uint8_t *sheet, size_t length, uint16_t number, uint32_t angle);
 
 /* The cosine of an angle: the sine of the angle and a quarter more. So, exactly, the negated angle keeps it, and half a turn more
    negates it. `steps`, `exact` and refusals as above. */
 vp_worked vp_cosine(const uint8_t *sheet, size_t length, uint16_t number, uint32_t angle);
 
-/* The interval of the sheet's formula of that number. Refusals 1 to 9, then 11. */
+/* The interval of the sheet's formula of that number. The sheet's own refusals, then 11. */
 vp_ends vp_interval(const uint8_t *sheet, size_t length, uint16_t number);
 
 /* Writes a formula record to the start of `out`, which has `room` bytes; 120 are enough for any. Bytes beyond the written ones
-   stay. Refusals 3; 2; 6; 7 or 8; then 12, all at place 0. */
+   stay. Refusals 3; 2; 6; 14; 7 or 8; then 12, all at place 0. */
 vp_written vp_write_record(vp_fields fields, uint8_t *out, size_t room);
 
 /* Writes a sheet to the start of `out`, which has `room` bytes: a start record, the run of formula records, and an end record,

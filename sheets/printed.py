@@ -7,12 +7,12 @@ from fractions import Fraction
 from typing import NamedTuple
 
 from formulas import (
-    EVEN, FRACTION, ODD, POLYNOMIAL, RATIONAL, ROOT, SHAPES, Formula)
+    EVEN, FRACTION, ODD, POLYNOMIAL, RATIONAL, ROOT, SHAPES, Formula, verdict)
 from functions import FUNCTIONS
 from paragraphs import Fault, read_paragraphs, shown
 from sheet import MOST_FORMULAS
 from typed import ends, exact, nearest_word, numbers
-from width import refusal_told
+from width import BLANK, refusal_told
 
 
 class Kind(NamedTuple):
@@ -178,9 +178,10 @@ def formula_of(kind, fields, read):
                       p, q, read.get("mode", 0), words)
     if kind == "root" and formula.lo < 0:
         raise Fault(fields["interval"].line, "a root has no argument below 0")
-    refusal = refusal_told(formula)
-    if refusal:
-        raise Fault(fields["interval"].line, refusal)
+    refused = verdict(formula)
+    if refused:
+        name = KINDS[kind].parts[0] if refused == BLANK else "interval"
+        raise Fault(fields[name].line, refusal_told(refused, formula))
     return formula
 
 

@@ -1,4 +1,5 @@
-"""How wide the interval of a formula may be: what is told with 7 and 8."""
+"""What is told of a formula that is refused: why, and with 7 and 8 how wide its
+interval may be."""
 
 from decimal import Decimal
 from fractions import Fraction
@@ -7,9 +8,12 @@ from math import ceil, floor
 from formulas import admission
 from number import ONE
 
+BLANK = 14
 WHY = {  # as the library has it; tests/words.sh holds the two together
     7: "the word range may be left on the way to an answer",
     8: "the divisor may reach 0",
+    BLANK: "the formula is blank and could only answer 0: all its coefficients "
+           "are 0, or all those of its numerator, or a fraction's b0 and a1",
 }
 PLACES = 8  # decimal places that tell one word from the next
 
@@ -46,16 +50,20 @@ def interval(lo, hi):
     return f"[{decimal(lo, floor)}, {decimal(hi, ceil)}]"
 
 
-def refusal_told(formula):
-    """Why Admission refuses the formula and what it admits, or nothing."""
-    refused = admission(formula)
-    if not refused:
-        return ""
-    told = f"refused {refused}, {WHY[refused]}: "
+def admitted_told(formula):
+    """Which intervals are admitted with the numbers of a formula."""
     a = widest(formula)
     if a is None:
-        return told + "no interval is admitted with these numbers"
-    told += f"any interval inside {interval(-a, a)} is admitted; "
+        return "no interval is admitted with these numbers"
     lo, hi = max(formula.lo, -a), min(formula.hi, a)
     part = interval(lo, hi) if lo <= hi else "nothing"
-    return told + f"of the one that was typed, {part}"
+    return (f"any interval inside {interval(-a, a)} is admitted; "
+            f"of the one that was typed, {part}")
+
+
+def refusal_told(refused, formula):
+    """Why a formula is refused by 14, 7 or 8, and what would help."""
+    told = f"refused {refused}, {WHY[refused]}"
+    if refused == BLANK:
+        return f"{told}; a number nearer to 0 than 1/{2 * ONE} becomes 0"
+    return f"{told}: {admitted_told(formula)}"

@@ -1,6 +1,7 @@
-/* Puts the paper's hand-checked rows that are not proved, rows of a root's steps, of marks and of angles, and every vector of a
-   file (oracle/README.md has its layout) to the library through its C interface, and compares the answers. For each group it prints
-   how many agree; a disagreement is printed with its vector. The exit status is 0 only if all agree and no group is empty. */
+/* Puts the paper's hand-checked rows that are not proved, rows of a root's steps, of marks, of angles and of blank formulas, and
+   every vector of a file (oracle/README.md has its layout) to the library through its C interface, and compares the answers. For each
+   group it prints how many agree; a disagreement is printed with its vector. The exit status is 0 only if all agree and no group is
+   empty. */
 #include <stdint.h>
 #include <stdio.h>
 #include <stdlib.h>
@@ -180,7 +181,7 @@ static void compare(int group, unsigned long number, int question, const uint8_t
     hex("got     ", got, got_length);
 }
 
-/* ---- the rows, as vectors in hexadecimal: the paper's, then those of a root's steps, of marks and of angles */
+/* ---- the rows, as vectors in hexadecimal: the paper's, then those of a root's steps, of marks, of angles and of blank formulas */
 static uint8_t row_question[256], row_answer[256];
 
 static size_t from_hex(uint8_t *to, const char *text) {
@@ -237,6 +238,23 @@ static size_t from_hex(uint8_t *to, const char *text) {
 #define ZEROS_24 FOUR_ZEROS FOUR_ZEROS FOUR_ZEROS FOUR_ZEROS FOUR_ZEROS FOUR_ZEROS
 #define ZEROS_32 ZEROS_24 FOUR_ZEROS FOUR_ZEROS
 #define NO_FIELDS "0000 0000 00000000 00000000 0000 0000 0000 " ZEROS_32
+/* formulas of which some are blank, by their words: a polynomial, odd or even one of two coefficients, a rational of two over one, a
+   fraction of depth 1 */
+#define SERIES(kind, words) ALONE("18", kind, words)
+#define RATIONAL(words) ALONE("20", "11", "0200 0100 " words)
+#define DEPTH_1(mode, words) ALONE("20", "12", mode "00 0100 " words)
+#define BLANK SERIES("10", "00000000 00000000 ")
+#define BLANK_ODD SERIES("14", "00000000 00000000 ")
+#define FIFTEEN_ZEROS FOUR_ZEROS FOUR_ZEROS FOUR_ZEROS "00000000 00000000 00000000 "
+/* from 0 to 12, where S is no word */
+#define WIDE(length, kind, rest) START length "000000 " kind "00 0100 00000000 0000000c " rest END
+/* a run of a root, with the number 1, and a blank record of that number; and a sheet of it that counts so many */
+#define RUN(number) "10000000 1300 0100 00000000 00000001 14000000 1000 " number "00 000000ff 00000001 00000000 "
+#define SHEET_OF(count, run) "08000000 0100 " count "00 " run "08000000 ffff " count "00"
+/* the record writer's fields on [-1, 1], with no room: counts and mode, two words, thirty zeros */
+#define UNROOMED(kind, counts, words) kind "00 0100 000000ff 00000001 " counts words "00000000 00000000 " FOUR_ZEROS ZEROS_24 "0000"
+#define IS_BLANK "0e 08000000 "
+#define NONE " 00000000 00000000"
 
 static const struct { int question; const char *asked, *answered; } rows[] = {
     {COUNT, START CUBIC END, "07 08000000 0000"},
@@ -373,6 +391,85 @@ static const struct { int question; const char *asked, *answered; } rows[] = {
     {COSINE, "0100 00000000 " START ROOT END, NO_SINE},
     {SINE, "0200 00000000 " EVEN, "0b 00000000 00000000" NEITHER},
     {COSINE, "0100 00000000 " EVEN "00", "09 28000000 00000000" NEITHER},
+    /* a blank formula: every function gives 14 at its record, before 9, 11, 13, 10 and 15 */
+    {COUNT, BLANK, IS_BLANK "0000"},
+    {COUNT, BLANK "00", IS_BLANK "0000"},
+    {FORMULA, "0100 " BLANK, IS_BLANK NO_FIELDS},
+    {EVALUATE, "0100 00000000 " BLANK, IS_BLANK "00000000" NEITHER},
+    {EVALUATE, "0200 01000001 " BLANK, IS_BLANK "00000000" NEITHER},
+    {DOUBLE, "0100 0000000000000000 " BLANK, IS_BLANK "0000000000000000" NEITHER},
+    {DOUBLE, "0200 000000000000f87f " BLANK, IS_BLANK "0000000000000000" NEITHER},
+    {INTERVAL, "0100 " BLANK, IS_BLANK "0000000000000000 0000000000000000"},
+    {SINE, "0100 00000000 " BLANK_ODD, IS_BLANK "00000000" NEITHER},
+    {COSINE, "0200 00000000 " BLANK_ODD, IS_BLANK "00000000" NEITHER},
+    {SINE, "0100 00000000 " BLANK, IS_BLANK "00000000" NEITHER},
+    /* of each kind, and with a step, of either sign, in one place, so that it is not; a root never is */
+    {COUNT, ALONE("14", "10", "00000000 "), IS_BLANK "0000"},
+    {COUNT, ALONE("14", "10", "ffffffff "), ACCEPTED "0100"},
+    {COUNT, ALONE("50", "10", FIFTEEN_ZEROS "00000000 "), IS_BLANK "0000"},
+    {COUNT, ALONE("50", "10", FIFTEEN_ZEROS "01000000 "), ACCEPTED "0100"},
+    {COUNT, SERIES("10", "01000000 00000000 "), ACCEPTED "0100"},
+    {COUNT, BLANK_ODD, IS_BLANK "0000"},
+    {COUNT, SERIES("14", "00000000 ffffffff "), ACCEPTED "0100"},
+    {COUNT, SERIES("15", "00000000 00000000 "), IS_BLANK "0000"},
+    {COUNT, SERIES("15", "00000000 01000000 "), ACCEPTED "0100"},
+    {COUNT, RATIONAL("00000000 00000000 00000001 "), IS_BLANK "0000"},
+    {COUNT, RATIONAL("00000000 01000000 00000001 "), ACCEPTED "0100"},
+    {COUNT, RATIONAL("ffffffff 00000000 00000001 "), ACCEPTED "0100"},
+    {COUNT, DEPTH_1("00", "00000000 00000000 00000001 "), IS_BLANK "0000"},
+    {COUNT, DEPTH_1("01", "00000000 00000000 00000001 "), IS_BLANK "0000"},
+    {COUNT, DEPTH_1("02", "00000000 00000000 00000001 "), IS_BLANK "0000"},
+    {COUNT, DEPTH_1("00", "00000000 ffffffff 00000001 "), ACCEPTED "0100"},
+    {COUNT, DEPTH_1("00", "01000000 00000000 00000001 "), ACCEPTED "0100"},
+    {COUNT, ALONE("28", "12", "0200 0200 00000000 00000000 00000001 000000ff 00000003 "), IS_BLANK "0000"},
+    {COUNT, START ROOT_TO("00000000 ") END, ACCEPTED "0100"},
+    /* what is nearly blank answers: a step by x^15, a step + 0 x, and minus a step by x, at one */
+    {EVALUATE, "0100 00000001 " ALONE("50", "10", FIFTEEN_ZEROS "01000000 "), ACCEPTED "01000000" EXACT(0)},
+    {EVALUATE, "0100 00000001 " DEPTH_1("00", "01000000 00000000 00000001 "), ACCEPTED "01000000" EXACT(0)},
+    {EVALUATE, "0100 00000001 " DEPTH_1("00", "00000000 ffffffff 00000001 "), ACCEPTED "ffffffff" EXACT(0)},
+    /* 14 before 8, of a divisor and of b1 that are 0; not blank, they give 8 */
+    {COUNT, RATIONAL("00000000 00000000 00000000 "), IS_BLANK "0000"},
+    {COUNT, RATIONAL("00000000 01000000 00000000 "), "08 08000000 0000"},
+    {COUNT, DEPTH_1("00", "00000000 00000000 00000000 "), IS_BLANK "0000"},
+    {COUNT, DEPTH_1("00", "01000000 00000000 00000000 "), "08 08000000 0000"},
+    /* 14 before 7, of a divisor M + M x and where S is no word; not blank, they give 7 */
+    {COUNT, ALONE("20", "11", "0100 0200 00000000 ffffff7f ffffff7f "), IS_BLANK "0000"},
+    {COUNT, ALONE("20", "11", "0100 0200 01000000 ffffff7f ffffff7f "), "07 08000000 0000"},
+    {COUNT, WIDE("14", "14", "00000000 "), IS_BLANK "0000"},
+    {COUNT, WIDE("14", "15", "00000000 "), IS_BLANK "0000"},
+    {COUNT, WIDE("14", "15", "01000000 "), "07 08000000 0000"},
+    {COUNT, WIDE("20", "12", "0100 0100 00000000 00000000 00000001 "), IS_BLANK "0000"},
+    {COUNT, WIDE("20", "12", "0100 0100 00000000 01000000 00000001 "), "07 08000000 0000"},
+    /* 6 before 14: lo above hi, mode 3, and what is no word, also where only other words make the formula blank */
+    {COUNT, START "14000000 1000 0100 01000000 00000000 00000000 " END, "06 08000000 0000"},
+    {COUNT, DEPTH_1("03", "00000000 00000000 00000001 "), "06 08000000 0000"},
+    {COUNT, SERIES("10", "00000000 00000080 "), "06 08000000 0000"},
+    {COUNT, RATIONAL("00000000 00000000 00000080 "), "06 08000000 0000"},
+    {COUNT, DEPTH_1("00", "00000000 00000000 00000080 "), "06 08000000 0000"},
+    /* 5, 4, 2 and 1 before 14 */
+    {COUNT, SHEET_OF("02", RUN("02")), "0e 18000000 0000"},
+    {COUNT, SHEET_OF("02", RUN("01")), "05 18000000 0000"},
+    {COUNT, SHEET_OF("01", RUN("02")), "04 18000000 0000"},
+    {COUNT, ALONE("19", "10", "00000000 00000000 00"), "02 08000000 0000"},
+    {COUNT, START "18000000 1000 0100 000000ff 00000001 00000000 000000", "01 08000000 0000"},
+    /* the record writer: 14, whatever stands past the last word, after 3 and 2, before 8 and 12 */
+    {RECORD, UNROOMED("10", "0100 0000 0000 ", "00000000 01000000 "), "0e" NONE},
+    {RECORD, UNROOMED("10", "0200 0000 0000 ", "00000000 01000000 "), "0c" NONE},
+    {RECORD, UNROOMED("14", "1000 0000 0000 ", "00000000 00000000 "), "0e" NONE},
+    {RECORD, UNROOMED("15", "1000 0000 0000 ", "00000000 00000000 "), "0e" NONE},
+    {RECORD, UNROOMED("11", "0100 0100 0000 ", "00000000 00000001 "), "0e" NONE},
+    {RECORD, UNROOMED("11", "0100 0100 0000 ", "00000000 00000000 "), "0e" NONE},
+    {RECORD, UNROOMED("11", "0100 0100 0000 ", "01000000 00000000 "), "08" NONE},
+    {RECORD, UNROOMED("12", "0c00 0000 0200 ", "00000000 00000000 "), "0e" NONE},
+    {RECORD, UNROOMED("12", "0c00 0000 0200 ", "00000000 01000000 "), "08" NONE},
+    {RECORD, UNROOMED("12", "0c00 0000 0300 ", "00000000 00000000 "), "06" NONE},
+    {RECORD, UNROOMED("10", "0000 0000 0000 ", "00000000 00000000 "), "02" NONE},
+    {RECORD, UNROOMED("01", "0100 0000 0000 ", "00000000 00000000 "), "03" NONE},
+    {RECORD, UNROOMED("13", "0000 0000 0000 ", "00000000 00000000 "), "06" NONE},             /* a root from -1 */
+    /* the sheet writer: 14 at the record's place in the new sheet, after 5, before 12; and the three bytes that are lent stay */
+    {SHEET, "0000 " RUN("02"), "0e 18000000 00000000"},
+    {SHEET, "0000 " RUN("01"), "05 18000000 00000000"},
+    {SHEET, "0300 14000000 1500 0100 000000ff 00000001 00000000", "0e 08000000 00000000 0d141b"},
 };
 
 static void by_hand(void) {

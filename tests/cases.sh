@@ -1,6 +1,6 @@
 #!/usr/bin/env bash
-# The library through its C interface: the paper's hand-checked rows that are not proved, rows of a root's steps, of marks and of
-# angles, and every vector of the second program.
+# The library through its C interface: the paper's hand-checked rows that are not proved, rows of a root's steps, of marks, of
+# angles and of blank formulas, and every vector of the second program.
 set -u
 cd "$(dirname "$0")/.." || exit 2
 . tests/lib.sh

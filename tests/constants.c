@@ -12,8 +12,8 @@
 #define ROOT(number, lo) 16, 0, 0, 0, 0x13, 0, SHORT(number), lo, lo, lo, lo, 0, 0, 0, 1
 /* c0 = c1 on the whole of 0..M */
 #define STEEP 24, 0, 0, 0, 0x10, 0, 1, 0, 0, 0, 0, 0, 255, 255, 255, 127, 255, 255, 255, 127, 255, 255, 255, 127
-/* 0 over 0 at 0 */
-#define BY_ZERO 28, 0, 0, 0, 0x11, 0, 1, 0, 0, 0, 0, 0, 0, 0, 0, 0, 1, 0, 1, 0, 0, 0, 0, 0, 0, 0, 0, 0
+/* so many steps over 0, at 0 */
+#define BY_ZERO(steps) 28, 0, 0, 0, 0x11, 0, 1, 0, 0, 0, 0, 0, 0, 0, 0, 0, 1, 0, 1, 0, steps, 0, 0, 0, 0, 0, 0, 0
 
 static int right, wrong;
 
@@ -40,7 +40,8 @@ static void sheets(void) {
     COUNT(VP_NUMBER_NOT_ABOVE, START(2), ROOT(1, 0), ROOT(1, 0), END(2));
     COUNT(VP_WRONG_VALUE, START(1), ROOT(1, 255), END(1));
     COUNT(VP_RANGE_LEFT, START(1), STEEP, END(1));
-    COUNT(VP_DIVISOR_ZERO, START(1), BY_ZERO, END(1));
+    COUNT(VP_DIVISOR_ZERO, START(1), BY_ZERO(1), END(1));
+    COUNT(VP_BLANK_FORMULA, START(1), BY_ZERO(0), END(1));
     COUNT(VP_BYTES_AFTER_END, START(1), ROOT(1, 0), END(1), 0);
 }
 

@@ -127,7 +127,7 @@ for sheet in "$root"/sheets/*.sheet; do [ "${sheet##*/}" = sine.sheet ] || same 
 same <(sed '/^## The formulas$/,$d' copy/sheets/README.md) <(sed '/^## The formulas$/,$d' "$root/sheets/README.md")
 if [ "$(sed '1,/^## The formulas$/d' copy/sheets/README.md | grep -c '^| ')" -eq 2 ] && grep -q '^| sine | 7 | e^x | polynomial | \[-1, 1\] | none |' copy/sheets/README.md; then pass; else fail "README.md's table: $(tail -n 5 copy/sheets/README.md)"; fi
 
-# What sheets/README.md shows of a call: its text, what is printed, its fault, and the interval that is admitted.
+# What sheets/README.md shows of a call: its text, what is printed, its fault, the interval that is admitted, and a blank formula.
 shown() { page_shows "$root/sheets/README.md" "$1"; } # TEXT
 { echo '# e^x, to see how it goes'; text desk '1, 1, 1/2' | sed 's/^kind/function: e^x\n&/'; } >mine.txt
 shown "$(cat mine.txt)"
@@ -138,5 +138,8 @@ gives 1 'mine.txt:7: ' mine.txt --out shown
 shown "$(printf '$ sheets/make.py mine.txt --out desk\n'; cat ../err)"
 sed -i 's/1 1,/1, 1,/; s/\[-1, 1\]/[-20, 20]/' mine.txt
 gives 1 'mine.txt:6: refused 7, ' mine.txt --out shown
+shown "$(cat ../err)"
+sed -i 's/1, 1, 1.2$/0, 0, 0/' mine.txt
+gives 1 'mine.txt:7: refused 14, ' mine.txt --out shown
 shown "$(cat ../err)"
 conclude

@@ -145,8 +145,9 @@ def beside(answer, formula_with):
 OPERATIONS = {
     "product": (number.product, lambda answer, a, b: at(
         b, answer, Formula(POLYNOMIAL, 1, b, b, 2, 0, 0, (0, a)))),
+    # a numerator a + x steps, so that it is not blank where a is 0
     "quotient": (number.quotient, lambda answer, a, d: at(
-        0, answer, Formula(RATIONAL, 1, 0, 0, 1, 1, 0, (a, d)))),
+        0, answer, Formula(RATIONAL, 1, 0, 0, 2, 1, 0, (a, 1, d)))),
     "root": (number.root, lambda answer, x: at(
         x, answer, Formula(SQUARE_ROOT, 1, 0, M, 0, 0, 0, ()))),
     "bound product": (number.bound_product, lambda answer, a, b: beside(

@@ -3,9 +3,9 @@
     python3 tests/listings.py FOLDER
 
 writes NAME.in and NAME.out for each case. The listing is worked out here from
-paper 01 and request M-100, over the second program's reader; the program under
-test has no part in it. Records and sheets are put together by the paper's layout, for other
-tests too.
+paper 01 and requests M-100 and M-106, over the second program's reader; the
+program under test has no part in it. Records and sheets are put together by the
+paper's layout, for other tests too.
 """
 
 import sys
@@ -77,7 +77,7 @@ def fraction(number, lo, hi, mode, *words):
                   head + pack(f"<{len(words)}i", *words))
 
 
-# One input for each refusal 1 to 9; the number is checked when it is made.
+# One input for each refusal of a sheet; the number is checked when it is made.
 REFUSED = {
     1: start(1) + root(1, 0, 1)[:15],
     2: start(1) + root(1, 0, 1) + b"\0" * 8,
@@ -88,11 +88,12 @@ REFUSED = {
     7: sheet(polynomial(1, 0, 1, M, 1)),
     8: sheet(rational(1, -ONE, ONE, [ONE], [ONE, ONE])),
     9: sheet(root(1, 0, 1)) + b"\0",
+    14: sheet(root(1, 0, 1), polynomial(2, 0, 1, 0)),
 }
 
 EXTREMES = sheet(
-    polynomial(0, -M, M, 0), polynomial(1, -M, -M, -M), root(2, M, M),
-    polynomial(9, -1, 0, 1), polynomial(10, -10, 10, 0),
+    polynomial(0, -M, M, 1), polynomial(1, -M, -M, -M), root(2, M, M),
+    polynomial(9, -1, 0, 1), polynomial(10, -10, 10, -1),
     root(65534, 0, 0), root(65535, 0, M))
 
 # Odd and even formulas at their limits. S is a word up to this end: its square
@@ -112,6 +113,26 @@ BEYOND = {
     "odd-too-large": sheet(polynomial(7, 0, ONE + 1, M, kind=ODD)),
 }
 
+# Blank formulas of each kind, of which some would be refused by 7 or 8 too, and
+# a sheet of such as are nearly blank.
+BLANK = {
+    "blank-polynomial": sheet(polynomial(1, -ONE, ONE, *[0] * 16)),
+    "blank-odd": sheet(polynomial(1, 0, WIDEST + 1, 0, kind=ODD)),
+    "blank-even": sheet(polynomial(1, 0, 0, 0, 0, kind=EVEN)),
+    "blank-rational": sheet(rational(1, -ONE, ONE, [0, 0], [ONE])),
+    "blank-over-zero": sheet(rational(1, -ONE, ONE, [0], [0])),
+    "blank-fraction":
+        sheet(fraction(1, -ONE, ONE, 2, 0, 0, ONE, -ONE, 3 * ONE)),
+    "blank-before-zero": sheet(fraction(1, -ONE, ONE, 0, 0, 0, 0)),
+}
+NEARLY_BLANK = sheet(
+    polynomial(1, -ONE, ONE, *[0] * 15, 1), polynomial(2, -ONE, ONE, -1, 0),
+    polynomial(3, -ONE, ONE, 0, -1, kind=ODD),
+    polynomial(4, -ONE, ONE, 0, 1, kind=EVEN),
+    rational(5, -ONE, ONE, [0, 1], [ONE]), rational(6, 0, 0, [-1, 0], [ONE]),
+    fraction(7, -ONE, ONE, 0, 1, 0, ONE), fraction(8, 0, 0, 1, 0, -1, ONE),
+    root(9, 0, 0))
+
 
 def cases():
     for number, content in REFUSED.items():
@@ -120,6 +141,11 @@ def cases():
     for name, content in BEYOND.items():
         assert listing(content) == "refused 7 at 8\n", name
         yield name, content
+    for name, content in BLANK.items():
+        assert listing(content) == "refused 14 at 8\n", name
+        yield name, content
+    assert listing(NEARLY_BLANK).startswith("formulas 9\n")
+    yield "nearly-blank", NEARLY_BLANK
     yield "odd-and-even", ODD_AND_EVEN
     yield "extremes", EXTREMES
     full = sheet(*(root(n, 0, n) for n in range(64)))

@@ -1,8 +1,8 @@
 """What sheets/make.py says of a text, and the sheets that it makes of one.
 
 The lines, words and bytes that are expected here were worked out by hand from
-paper 01, request M-100 and sheets/README.md. The last line is 'N passed, M
-failed'.
+paper 01, requests M-100 and M-106 and sheets/README.md. The last line is 'N
+passed, M failed'.
 """
 
 import io
@@ -244,6 +244,35 @@ REFUSED = [
      "[-1, 1]", "refused 7, ", "is admitted"),
 ]
 
+# Refusal 14: kind, numbers, interval, and the line that is told, which is that of
+# the coefficients or of the numerator. Half a step is 1/33554432. It comes before
+# 7, as for 12 times 12, and before 8, as for a divisor of 0 and of 0 + x/1.
+BLANK = [
+    ("polynomial", ["coefficients: 0"], "[-1, 1]", 5),
+    ("polynomial", ["coefficients: 0, -0.0,", "  0/7"], "[0, 0]", 5),
+    ("polynomial", ["coefficients: 1/33554433, -2.9e-8"], "[-1, 1]", 5),
+    ("odd", ["coefficients: 0" + ", 0" * 15], "[-1, 1]", 5),
+    ("even", ["coefficients: 0, 0"], "[-1, 1]", 5),
+    ("even", ["coefficients: 0"], "[0, 12]", 5),
+    ("rational", ["numerator: 0, 0", "divisor: 1, 1"], "[0, 0.5]", 5),
+    ("rational", ["divisor: 0", "numerator: 0"], "[-1, 1]", 6),
+    ("fraction", ["mode: 0", "coefficients: 0, 0, 1"], "[-1, 1]", 6),
+    ("fraction", ["coefficients: 0, 0, 0, 1, 1", "mode: 2"], "[-1, 1]", 5),
+]
+
+# Formulas that are nearly blank, and their words.
+NEARLY = [
+    ("polynomial", ["coefficients: 0, 0, 1/33554432"], (0, 0, 1)),
+    ("odd", ["coefficients: -3e-8, 0"], (-1, 0)),
+    ("even", ["coefficients: 0, 3e-8"], (0, 1)),
+    ("rational", ["numerator: 0, 1/16777216", "divisor: 2"],
+     (0, 1, 33554432)),
+    ("fraction", ["mode: 0", "coefficients: -1/16777216, 0, 1"],
+     (-1, 0, 16777216)),
+    ("fraction", ["mode: 0", "coefficients: 0, 1/16777216, 1"],
+     (0, 1, 16777216)),
+]
+
 # Intervals and their words: pi/2 is 26353589.27 steps, 40 pi 2108287141.33,
 # sqrt(2)/2 11863283.20, 0.1 1677721.6.
 INTERVALS = [
@@ -348,6 +377,18 @@ def check_refusals(tally):
                    Made(one_formula(kind, parts, wider)).status == 1)
 
 
+def check_blank(tally):
+    for kind, parts, interval, line in BLANK:
+        made = Made(one_formula(kind, parts, interval))
+        tally.hold(f"{kind} {parts} on {interval}: {made.told}", made.says(
+            [(line, "refused 14, the formula is blank and could only answer")]))
+    for kind, parts, words in NEARLY:
+        made = Made(one_formula(kind, parts, "[-1, 1]"))
+        formula = read(made.files["one.sheet"])[0] if made.files else None
+        tally.hold(f"{kind} {parts}: {made.told or formula}",
+                   formula and formula.words == words)
+
+
 def expected_files():
     """The sheets of GOOD by the layout of paper 01 and request M-100."""
     one = 16777216
@@ -380,11 +421,12 @@ def check_good(tally):
         tally.hold(f"{interval}: {made.told or formula}",
                    formula and formula[2:4] == (lo, hi))
     for text, word in NUMBERS:
+        # behind a 1, without which 0 would be a blank formula
         made = Made(one_formula(
-            "polynomial", [f"coefficients: {text}"], "[0, 1]"))
+            "polynomial", [f"coefficients: 1, {text}"], "[0, 0]"))
         formula = read(made.files["one.sheet"])[0] if made.files else None
         tally.hold(f"{text}: {made.told or formula}",
-                   formula and formula.words == (word,))
+                   formula and formula.words == (16777216, word))
 
 
 def check_cut(tally):
@@ -407,8 +449,8 @@ def check_padding(tally):
     for kind, terms, cells in (
             ("odd", 8, ("48", "80")), ("odd", 9, ("52", "–")),
             ("even", 8, ("48", "76")), ("even", 9, ("52", "–"))):
-        text = one_formula(kind, ["function: sin x", "coefficients: "
-                                  + ", ".join(["0"] * terms)], "[0, 0]")
+        text = one_formula(kind, ["function: sin x", "coefficients: 1"
+                                  + ", 0" * (terms - 1)], "[0, 0]")
         (printed,) = read_formulas(text.decode(), [], Faults())
         found = compared_cells(printed, measure_padded(printed, 2))
         tally.hold(f"{kind} of {terms}: {found}", (*found[1:],) == cells
@@ -419,6 +461,7 @@ def main():
     tally = Tally()
     check_faults(tally)
     check_refusals(tally)
+    check_blank(tally)
     check_good(tally)
     check_cut(tally)
     check_padding(tally)

@@ -427,6 +427,64 @@ class Words(Case):
                 formula, hi=12 * ONE, p=1, words=(1,)))
 
 
+class Blank(Case):
+    """Formulas that are blank, and beside each one that nearly is."""
+
+    pairs = [(vp.Fields(kind, 1, -ONE, ONE, words=words, **counts),
+              vp.Fields(kind, 1, -ONE, ONE, words=nearly, **counts))
+             for kind, counts, words, nearly in (
+                 (vp.POLYNOMIAL, {"p": 1}, (0,), (-1,)),
+                 (vp.POLYNOMIAL, {"p": 16}, (0,) * 16, (0,) * 15 + (1,)),
+                 (vp.ODD, {"p": 2}, (0, 0), (0, -1)),
+                 (vp.EVEN, {"p": 2}, (0, 0), (0, 1)),
+                 (vp.RATIONAL, {"p": 2, "q": 1}, (0, 0, ONE), (0, 1, ONE)),
+                 (vp.RATIONAL, {"p": 2, "q": 1}, (0, 0, -ONE), (-1, 0, -ONE)),
+                 (vp.FRACTION, {"p": 1}, (0, 0, ONE), (1, 0, ONE)),
+                 (vp.FRACTION, {"p": 2, "mode": 2},
+                  (0, 0, ONE, -ONE, 3 * ONE), (0, 1, ONE, -ONE, 3 * ONE)))]
+
+    def test_record(self):
+        for blank, nearly in self.pairs:
+            self.refuses(vp.BLANK_FORMULA, 0, vp.write_record, blank)
+            # 14 before 12, and 6 before 14
+            self.refuses(14, 0, vp.write_record, blank, room=0)
+            self.refuses(6, 0, vp.write_record,
+                         dataclasses.replace(blank, lo=ONE + 1))
+            sheet = vp.write_sheet(vp.write_record(nearly))
+            self.assertEqual(vp.formula(sheet, 1), nearly)
+
+    def test_before_7_and_8(self):
+        """A divisor and a b1 of 0; 12 times 12, which is no word."""
+        for number, hi, kind, counts, words in (
+                (8, ONE, vp.RATIONAL, {"p": 1, "q": 1}, (0, 0)),
+                (8, ONE, vp.FRACTION, {"p": 1}, (0, 0, 0)),
+                (7, 12 * ONE, vp.FRACTION, {"p": 1, "mode": 1}, (0, 0, ONE)),
+                (7, 12 * ONE, vp.EVEN, {"p": 1}, (0,))):
+            blank = vp.Fields(kind, 1, 0, hi, words=words, **counts)
+            self.refuses(14, 0, vp.write_record, blank)
+            self.refuses(number, 0, vp.write_record, dataclasses.replace(
+                blank, words=(1,) + words[1:]))
+
+    def test_root(self):
+        self.assertEqual(vp.write_record(vp.Fields(vp.ROOT, 1, 0, 0)),
+                         SHEET[8:20] + bytes(4))
+
+    def test_sheet(self):
+        """Before 9, 11, 13, 10 and 15; by the sheet writer too."""
+        for blank, nearly in self.pairs:
+            words = struct.pack(f"<{len(blank.words)}i", *blank.words)
+            run = vp.write_record(nearly)[:-len(words)] + words
+            self.refuses(14, 8, vp.write_sheet, run)
+            sheet = SHEET[:8] + run + SHEET[24:] + b"\0"
+            self.refuses(14, 8, vp.count, sheet)
+            self.refuses(14, 8, vp.formula, sheet, 2)
+            self.refuses(14, 8, vp.evaluate, sheet, 1, ONE + 1)
+            self.refuses(14, 8, vp.evaluate_double, sheet, 1, float("nan"))
+            self.refuses(14, 8, vp.interval, sheet, 1)
+            self.refuses(14, 8, vp.sine, sheet, 1, 0)
+            self.refuses(14, 8, vp.cosine, sheet, 1, 0)
+
+
 class Refusals(Case):
     def test_pickled_and_copied(self):
         with self.assertRaises(vp.Refused) as raised:

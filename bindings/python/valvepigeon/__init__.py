@@ -2,7 +2,8 @@
 
 A word is a whole number from -2147483647 to 2147483647, and stands for itself
 divided by 2^24. Every function takes any bytes; it gives its answer or raises
-`Refused`. With the repository's own sheets:
+`Refused`. "The sheet's own" refusals are 1 to 9 and 14, which comes directly
+after 6. With the repository's own sheets:
 
     >>> import valvepigeon
     >>> with open("sheets/square-root.sheet", "rb") as file:
@@ -54,8 +55,9 @@ outside 0..65535, say) is an OverflowError; so add angles modulo 2^32.
 `pip install ./bindings/python` installs it. The shared library, which
 `./build-library` makes on x86-64 Linux, is looked for where the variable
 VALVEPIGEON_LIBRARY says, else beside this module, in the repository or release
-that it stands in, and where the system's loader looks. Its version
-has to be 2.1.0 or a later 2.x: an older library does not set `exact`.
+that it stands in, and where the system's loader looks. Its version has to be
+2.2.0 or a later 2.x: an older library takes blank formulas, and one before
+2.1.0 does not set `exact`.
 """
 
 from __future__ import annotations
@@ -82,7 +84,7 @@ LONGEST_RECORD, SHEET_ADDS, MOST_FORMULAS = 120, 16, 64
 CUT_SHORT, WRONG_LENGTH, WRONG_KIND, WRONG_COUNT = 1, 2, 3, 4
 NUMBER_NOT_ABOVE, WRONG_VALUE, RANGE_LEFT, DIVISOR_ZERO = 5, 6, 7, 8
 BYTES_AFTER_END, ARGUMENT_OUTSIDE, NO_SUCH_FORMULA = 9, 10, 11
-BUFFER_TOO_SHORT, NOT_FINITE, NO_SINE = 12, 13, 15
+BUFFER_TOO_SHORT, NOT_FINITE, BLANK_FORMULA, NO_SINE = 12, 13, 14, 15
 
 
 class Refused(Exception):
@@ -237,26 +239,26 @@ def _worked(function: str, sheet: ReadableBuffer, *arguments: int) -> Worked:
 # ---- the nine functions
 
 def count(sheet: ReadableBuffer) -> int:
-    """How many formulas the sheet has. Refusals 1 to 9."""
+    """How many formulas the sheet has. The sheet's own refusals."""
     return _lent("vp_count", sheet).count
 
 
 def formula(sheet: ReadableBuffer, number: int) -> Fields:
-    """The sheet's formula of that number. Refusals 1 to 9, then 11."""
+    """The formula of that number. The sheet's own refusals, then 11."""
     f = _lent("vp_formula", sheet, _u16(number)).fields
     return Fields(f.kind, f.number, f.lo, f.hi, f.p, f.q, f.mode,
                   tuple(f.words[:_asked_for(f.kind, f.p, f.q)]))
 
 
 def evaluate(sheet: ReadableBuffer, number: int, argument: int) -> Worked:
-    """The answer at a word. Refusals 1 to 9, then 11, 10."""
+    """The answer at a word. The sheet's own refusals, then 11, 10."""
     return _worked("vp_evaluate", sheet, _u16(number), _i32(argument))
 
 
 def evaluate_double(sheet: ReadableBuffer, number: int,
                     argument: float) -> Shown:
     """The answer at a double, which is rounded to a word; if it had to be, the
-    answer is not exact. Refusals 1 to 9, then 11, 13, 10."""
+    answer is not exact. The sheet's own refusals, then 11, 13, 10."""
     answer = _lent("vp_evaluate_double", sheet, _u16(number),
                    _double(argument))
     return Shown(answer.value, answer.steps, bool(answer.exact))
@@ -265,17 +267,17 @@ def evaluate_double(sheet: ReadableBuffer, number: int,
 def sine(sheet: ReadableBuffer, number: int, angle: int) -> Worked:
     """The sine of an angle, 0 to 2^32 - 1, by an odd formula whose interval
     holds 0 to one, as those for sin(pi x/2). It can be exact at
-    multiples of 64 only. Refusals 1 to 9, then 11, 15."""
+    multiples of 64 only. The sheet's own refusals, then 11, 15."""
     return _worked("vp_sine", sheet, _u16(number), _u32(angle))
 
 
 def cosine(sheet: ReadableBuffer, number: int, angle: int) -> Worked:
-    """The cosine: the sine of a quarter more. Refusals 1 to 9, then 11, 15."""
+    """The cosine: the sine of a quarter more, with the same refusals."""
     return _worked("vp_cosine", sheet, _u16(number), _u32(angle))
 
 
 def interval(sheet: ReadableBuffer, number: int) -> Ends:
-    """A formula's interval. Refusals 1 to 9, then 11."""
+    """A formula's interval. The sheet's own refusals, then 11."""
     ends = _lent("vp_interval", sheet, _u16(number))
     return Ends(ends.low, ends.high)
 
@@ -284,7 +286,7 @@ def write_record(fields: Fields, *, room: int = LONGEST_RECORD) -> bytes:
     """The bytes of a formula record, written to a buffer of so many bytes.
 
     Another number of words than the counts ask for is a ValueError. Refusals
-    3; 2; 6; 7 or 8; then 12, all at place 0.
+    3; 2; 6; 14; 7 or 8; then 12, all at place 0.
     """
     out = ctypes.create_string_buffer(_within(room, 0, sys.maxsize))
     length = _called("vp_write_record", _struct(fields), out, room).length
@@ -295,7 +297,7 @@ def write_sheet(run: ReadableBuffer, *, room: Optional[int] = None) -> bytes:
     """A start, the run of records and an end, in a buffer of so many bytes.
 
     Without a room there is enough. Places count from the new sheet's first
-    byte, so the run begins at 8.
+    byte, so the run begins at 8. The sheet's own refusals but 9, then 12.
     """
     if room is None:
         room = memoryview(run).nbytes + SHEET_ADDS

@@ -1,7 +1,8 @@
 //! Valvepigeon from Rust: formula sheets, and the fixed-point arithmetic behind them.
 //!
 //! A word is a whole number from -2147483647 to 2147483647, and stands for itself divided by 2^24. Every function takes any
-//! bytes, numbers and arguments, and ends with an answer or a [`Refusal`].
+//! bytes, numbers and arguments, and ends with an answer or a [`Refusal`]. *The sheet's own* refusals are 1 to 9 and 14, which
+//! comes directly after 6.
 //!
 //! ```
 //! # fn main() -> Result<(), valvepigeon::Refusal> {
@@ -25,8 +26,8 @@
 //!
 //! The library is for x86-64 Linux. `./build-library` makes it in the repository, where a package that names this one by its
 //! path finds it: `valvepigeon = { path = ".../bindings/rust" }`. Elsewhere the variable `VALVEPIGEON_LIBRARY_DIR` names the
-//! folder of `libvalvepigeon.a`, or pkg-config knows it. Its version has to be 2.1.0 or a later 2.x: an older library does not
-//! set `exact`.
+//! folder of `libvalvepigeon.a`, or pkg-config knows it. Its version has to be 2.2.0 or a later 2.x: an older library takes blank
+//! formulas, and one before 2.1.0 does not set `exact`.
 
 #![warn(missing_docs)]
 
@@ -81,6 +82,8 @@ pub const NO_SUCH_FORMULA: u32 = 11;
 pub const BUFFER_TOO_SHORT: u32 = 12;
 /// Refusal 13.
 pub const NOT_FINITE: u32 = 13;
+/// Refusal 14.
+pub const BLANK_FORMULA: u32 = 14;
 /// Refusal 15.
 pub const NO_SINE: u32 = 15;
 
@@ -163,56 +166,56 @@ fn worked(r: raw::Worked) -> Result<Worked, Refusal> {
 // In each call below a slice lends its own pointer and length, and no function keeps a pointer, or reads or writes outside
 // what it is lent.
 
-/// How many formulas the sheet has. Refusals 1 to 9.
+/// How many formulas the sheet has. The sheet's own refusals.
 pub fn count(sheet: &[u8]) -> Result<u16, Refusal> {
     let r = unsafe { raw::vp_count(sheet.as_ptr(), sheet.len()) };
     answer(r.refused, r.place, r.count)
 }
 
-/// The sheet's formula of that number. Refusals 1 to 9, then 11.
+/// The sheet's formula of that number. The sheet's own refusals, then 11.
 pub fn formula(sheet: &[u8], number: u16) -> Result<Fields, Refusal> {
     let r = unsafe { raw::vp_formula(sheet.as_ptr(), sheet.len(), number) };
     answer(r.refused, r.place, r.fields)
 }
 
-/// What the formula of that number answers at a word. Refusals 1 to 9, then 11, 10.
+/// What the formula of that number answers at a word. The sheet's own refusals, then 11, 10.
 pub fn evaluate(sheet: &[u8], number: u16, argument: i32) -> Result<Worked, Refusal> {
     worked(unsafe { raw::vp_evaluate(sheet.as_ptr(), sheet.len(), number, argument) })
 }
 
-/// What the formula of that number answers at a double. Refusals 1 to 9, then 11, 13, 10.
+/// What the formula of that number answers at a double. The sheet's own refusals, then 11, 13, 10.
 pub fn evaluate_double(sheet: &[u8], number: u16, argument: f64) -> Result<Shown, Refusal> {
     let r = unsafe { raw::vp_evaluate_double(sheet.as_ptr(), sheet.len(), number, argument) };
     answer(r.refused, r.place, Shown { value: r.value, steps: r.steps, exact: r.exact != 0 })
 }
 
 /// The sine of an angle by the formula of that number, an odd one whose interval holds 0 to one, as those for sin(pi x/2). An
-/// angle is a part of a turn, which has 2^32 of them; add angles by [`u32::wrapping_add`]. Refusals 1 to 9, then 11, 15.
+/// angle is a part of a turn, which has 2^32 of them; add angles by [`u32::wrapping_add`]. The sheet's own refusals, then 11, 15.
 pub fn sine(sheet: &[u8], number: u16, angle: u32) -> Result<Worked, Refusal> {
     worked(unsafe { raw::vp_sine(sheet.as_ptr(), sheet.len(), number, angle) })
 }
 
-/// The cosine of an angle: the sine of a quarter more. Refusals 1 to 9, then 11, 15.
+/// The cosine of an angle: the sine of a quarter more. The sheet's own refusals, then 11, 15.
 pub fn cosine(sheet: &[u8], number: u16, angle: u32) -> Result<Worked, Refusal> {
     worked(unsafe { raw::vp_cosine(sheet.as_ptr(), sheet.len(), number, angle) })
 }
 
-/// The interval of the formula of that number. Refusals 1 to 9, then 11.
+/// The interval of the formula of that number. The sheet's own refusals, then 11.
 pub fn interval(sheet: &[u8], number: u16) -> Result<Ends, Refusal> {
     let r = unsafe { raw::vp_interval(sheet.as_ptr(), sheet.len(), number) };
     answer(r.refused, r.place, Ends { low: r.low, high: r.high })
 }
 
-/// Writes a formula record to the start of `out` and gives its length. Bytes beyond it stay. Refusals 3; 2; 6; 7 or 8; then 12,
-/// all at place 0.
+/// Writes a formula record to the start of `out` and gives its length. Bytes beyond it stay. Refusals 3; 2; 6; 14; 7 or 8; then
+/// 12, all at place 0.
 pub fn write_record(fields: &Fields, out: &mut [u8]) -> Result<usize, Refusal> {
     let r = unsafe { raw::vp_write_record(*fields, out.as_mut_ptr(), out.len()) };
     answer(r.refused, r.place, r.length as usize)
 }
 
 /// Writes a start, the run of records and an end to the start of `out`, and gives the sheet's length, the run's plus
-/// [`SHEET_ADDS`]. Bytes beyond it stay. Places count from the new sheet's first byte, so the run begins at 8. Refusals 1 to 8,
-/// then 12.
+/// [`SHEET_ADDS`]. Bytes beyond it stay. Places count from the new sheet's first byte, so the run begins at 8. The sheet's own
+/// refusals but 9, then 12.
 pub fn write_sheet(run: &[u8], out: &mut [u8]) -> Result<usize, Refusal> {
     let r = unsafe { raw::vp_write_sheet(run.as_ptr(), run.len(), out.as_mut_ptr(), out.len()) };
     answer(r.refused, r.place, r.length as usize)

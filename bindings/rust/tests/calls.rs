@@ -1,5 +1,5 @@
 //! Calls each function of the binding, on the paper's own sheet, on roots of every number of steps, at ties, on an odd and an even
-//! formula, at angles, and where answers are exact and where they are rounded.
+//! formula, at angles, where answers are exact and where they are rounded, and on blank formulas.
 
 use valvepigeon::*;
 
@@ -229,6 +229,81 @@ fn rounded_angles() {
         for answer in [sine(&sheet, 1, angle).unwrap(), cosine(&sheet, 1, angle.wrapping_sub(quarter)).unwrap()] {
             assert_eq!((answer.word, answer.exact), (word, exact));
         }
+    }
+}
+
+/// Formulas that are blank, and beside each one that nearly is.
+fn blank_and_nearly() -> Vec<(Fields, Fields)> {
+    let rational = |words: &[i32]| Fields { p: 2, q: 1, ..series(RATIONAL, 1, words) };
+    let fraction = |mode, words: &[i32]| Fields { p: words.len() as u16 / 2, mode, ..series(FRACTION, 1, words) };
+    let mut last = [0; 16];
+    last[15] = 1;
+    vec![
+        (series(POLYNOMIAL, 1, &[0]), series(POLYNOMIAL, 1, &[-1])),
+        (series(POLYNOMIAL, 1, &[0; 16]), series(POLYNOMIAL, 1, &last)),
+        (series(ODD, 1, &[0, 0]), series(ODD, 1, &[0, -1])),
+        (series(EVEN, 1, &[0, 0]), series(EVEN, 1, &[0, 1])),
+        (rational(&[0, 0, ONE]), rational(&[0, 1, ONE])),
+        (rational(&[0, 0, -ONE]), rational(&[-1, 0, -ONE])),
+        (fraction(0, &[0, 0, ONE]), fraction(0, &[1, 0, ONE])),
+        (fraction(2, &[0, 0, ONE, -ONE, 3 * ONE]), fraction(2, &[0, 1, ONE, -ONE, 3 * ONE])),
+    ]
+}
+
+#[test]
+fn a_blank_formula_is_not_written() {
+    let mut out = [7u8; LONGEST_RECORD];
+    for (blank, nearly) in blank_and_nearly() {
+        assert_eq!(write_record(&blank, &mut out), refused(BLANK_FORMULA, 0));
+        assert!(out.iter().all(|&b| b == 7));
+        // 14 before 12, and 6 before 14
+        assert_eq!(write_record(&blank, &mut []), refused(14, 0));
+        assert_eq!(write_record(&Fields { lo: ONE + 1, ..blank }, &mut out), refused(6, 0));
+        assert_eq!(formula(&sheet_of(&nearly), 1), Ok(nearly));
+    }
+    // a divisor and a b1 of 0 (8 by themselves), and 12 times 12 (7 by itself)
+    let any = Fields { number: 1, hi: ONE, p: 1, ..Fields::default() };
+    for (number, blank) in [
+        (8, Fields { kind: RATIONAL, q: 1, ..any }),
+        (8, Fields { kind: FRACTION, ..any }),
+        (7, Fields { kind: FRACTION, mode: 1, hi: 12 * ONE, ..any }),
+        (7, Fields { kind: EVEN, hi: 12 * ONE, ..any }),
+    ] {
+        assert_eq!(write_record(&blank, &mut out), refused(14, 0));
+        let mut other = blank;
+        other.words[0] = 1;
+        assert_eq!(write_record(&other, &mut out), refused(number, 0));
+    }
+    // a root is never blank
+    assert_eq!(write_record(&Fields { hi: 0, ..root() }, &mut out), Ok(16));
+}
+
+/// The sheet of a formula with other words, which stand between place 24 or 28 and the end record.
+fn with_words(formula: &Fields, words: &[i32]) -> Vec<u8> {
+    let mut sheet = sheet_of(formula);
+    let (first, end) = (if [RATIONAL, FRACTION].contains(&formula.kind) { 28 } else { 24 }, sheet.len() - 8);
+    for (stored, word) in sheet[first..end].chunks_mut(4).zip(words) {
+        stored.copy_from_slice(&word.to_le_bytes());
+    }
+    sheet
+}
+
+#[test]
+fn a_blank_formula_is_not_read() {
+    let mut out = [7u8; 2 * LONGEST_RECORD];
+    for (blank, nearly) in blank_and_nearly() {
+        let mut sheet = with_words(&nearly, &blank.words);
+        assert_eq!(write_sheet(&sheet[8..sheet.len() - 8], &mut out), refused(14, 8));
+        assert!(out.iter().all(|&b| b == 7));
+        // before 9, 11, 13, 10 and 15
+        sheet.push(0);
+        assert_eq!(count(&sheet), refused(14, 8));
+        assert_eq!(formula(&sheet, 2), refused(14, 8));
+        assert_eq!(evaluate(&sheet, 1, ONE + 1), refused(14, 8));
+        assert_eq!(evaluate_double(&sheet, 1, f64::NAN), refused(14, 8));
+        assert_eq!(interval(&sheet, 1), refused(14, 8));
+        assert_eq!(sine(&sheet, 1, 0), refused(14, 8));
+        assert_eq!(cosine(&sheet, 1, 0), refused(14, 8));
     }
 }
 

@@ -109,6 +109,7 @@ fn rational_fault(b: &[u8], seen: u16, count: u16, next: u32, s: u32) -> u8
     }
     let shape = layout::shape_of(b, row);
     let p = shape.p as usize;
+    // the numerator's words stand first
     if parts::all_zero(b, row.head, p) {
         return blank_fault(b, row.head);
     }
