@@ -54,6 +54,10 @@ module _ (l : List ℕ) where
   pub none : Fault 0
   none = inl refl
 
+  pub some : (n : ℕ) → (n ≡ 0 → ⊥) → Fault n → OneOf l n
+  some n z (inl e) = absurd (z e)
+  some n z (inr h) = h
+
   pub test : (t : Bool) {a b : ℕ} → Fault a → Fault b → Fault (cond t a b)
   test true h k = h
   test false h k = k

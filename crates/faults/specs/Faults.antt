@@ -84,13 +84,13 @@ ownFault r h lo hi =
     (orElse (outside (r .mode) (h .mode) 6)
     (kindFault (r .kind) lo))
 
+-- binary places outside 16..28
+unfoldable pub scaleFault : ℕ → ℕ
+scaleFault s = cond (ltb s 16) 6 (cond (ltb 28 s) 6 0)
+
 -- ---- 14. A blank formula
 abbrev pub blankFault : Shape → List ℤ → ℕ
 blankFault h ws = cond (blankOf h ws) 14 0
-
--- ---- the scale: binary places outside 16..28 (6)
-unfoldable pub scaleFault : ℕ → ℕ
-scaleFault s = cond (ltb s 16) 6 (cond (ltb 28 s) 6 0)
 
 -- ---- worked examples. The frame: a length of 7, 8, 120 and 121, each with as many bytes; 8 with one byte less; three bytes; 7 comes before too few bytes
 abbrev says : ℕ → ℕ → List ℕ

@@ -2,7 +2,7 @@
 -- where that can give it too.
 use Prim.Native.Nat.{ℕ}
 use mathlib.Core.Path.{_≡_, refl}
-use mathlib.Core.Logic.{_⊎_}
+use mathlib.Core.Logic.{_⊎_, inl, inr}
 use mathlib.Core.List.{List, [], _∷_}
 use lib.ListN.{length}
 
@@ -18,6 +18,11 @@ recordRefusals = 1 ∷ 2 ∷ 3 ∷ 4 ∷ 5 ∷ 6 ∷ 14 ∷ 7 ∷ 8 ∷ []
 abbrev pub sheetRefusals : List ℕ
 sheetRefusals = 9 ∷ recordRefusals
 
--- ---- a worked example: 1 to 8 and 14 are nine numbers, and 9 is the tenth
-how-many : (length recordRefusals ≡ 9) × (length sheetRefusals ≡ 10)
-how-many = (refl, refl)
+-- ---- worked examples: a record's are 1 to 8 and 14, these nine and no more; a sheet's are 9 and these
+nine : OneOf recordRefusals 1 × OneOf recordRefusals 2 × OneOf recordRefusals 3 × OneOf recordRefusals 4 × OneOf recordRefusals 5
+    × OneOf recordRefusals 6 × OneOf recordRefusals 7 × OneOf recordRefusals 8 × OneOf recordRefusals 14
+    × (length recordRefusals ≡ 9)
+nine = (inl refl, inr (inl refl), inr (inr (inl refl)), inr (inr (inr (inl refl))), inr (inr (inr (inr (inl refl)))), inr (inr (inr (inr (inr (inl refl))))), inr (inr (inr (inr (inr (inr (inr (inl refl))))))), inr (inr (inr (inr (inr (inr (inr (inr (inl refl)))))))), inr (inr (inr (inr (inr (inr (inl refl)))))), refl)
+
+ten : OneOf sheetRefusals 9 × (length sheetRefusals ≡ 10)
+ten = (inl refl, refl)

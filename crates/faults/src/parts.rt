@@ -1,4 +1,5 @@
-// The checks of a formula record's parts: its counts and length, its place among the others, its words, its interval and mode.
+// The checks of a formula record's parts: its counts and length, its place among the others, its words and whether
+// they are all zero, its interval and mode.
 ghost use mathlib.Core.Path.{_≡_};
 ghost use Rattle.stored.specs.Words.{words, Stretch};
 ghost use Rattle.formula.specs.Blank.{allZero};

@@ -1,10 +1,9 @@
--- Numbers that are all zero: place by place, as they stand in bytes, and what the test says of a whole list.
-use Rattle.whole.proofs.Basics.{_≡_, _∙_, refl, sym, ap, subst, Bool, true, false, cond, List, [], _∷_, ℕ, suc, zero, _+_, _-_, _*_, _≤_, _<_, arith, T, eqb, length, take, getD, ℤ, pos, negsuc, natAbs, w32, SFits, ofZ, eqb-true, eqb-false, ne-eqb}
-use Rattle.word.specs.Words.{NotZero}
+-- All zero: of words in bytes, one behind the other; and of a list, that each number is zero, or that one is not.
+use Rattle.whole.proofs.Basics.{_≡_, _∙_, refl, sym, ap, subst, Bool, true, false, cond, List, [], _∷_, ℕ, suc, zero, _+_, _-_, _*_, _≤_, _<_, arith, T, eqb, take, getD, ℤ, pos, negsuc, natAbs, w32, SFits, ofZ, eqb-true, eqb-false, ne-eqb}
 use Rattle.stored.specs.Numbers.{word4}
 use Rattle.stored.specs.Words.{words}
 use Rattle.stored.proofs.WordsLaws.{words-take}
-use Rattle.formula.specs.Blank.{allZero}
+use Rattle.formula.specs.Blank.{allZero, SomeNotZero}
 
 -- ---- in bytes
 
@@ -31,9 +30,9 @@ first-zero b at n m h =
 -- ---- of a whole list
 
 -- the first number is zero, and the others are
-pub parts : (z : ℤ) (zs : List ℤ) → allZero (z ∷ zs) ≡ true → (natAbs z ≡ 0) × (allZero zs ≡ true)
+pub first-and-rest : (z : ℤ) (zs : List ℤ) → allZero (z ∷ zs) ≡ true → (natAbs z ≡ 0) × (allZero zs ≡ true)
 unfolding allZero
-parts z zs e = at (eqb (natAbs z) 0) refl e
+first-and-rest z zs e = at (eqb (natAbs z) 0) refl e
   where
     at : (t : Bool) → eqb (natAbs z) 0 ≡ t → cond t (allZero zs) false ≡ true → (natAbs z ≡ 0) × (allZero zs ≡ true)
     at true q h = (eqb-true _ _ q, h)
@@ -41,14 +40,8 @@ parts z zs e = at (eqb (natAbs z) 0) refl e
 
 pub each-zero : (ws : List ℤ) → allZero ws ≡ true → (i : ℕ) → natAbs (getD ws i (pos 0)) ≡ 0
 each-zero [] e i = refl
-each-zero (z ∷ zs) e zero = parts z zs e .0
-each-zero (z ∷ zs) e (suc i) = each-zero zs (parts z zs e .1) i
-
--- one of the numbers is not zero
-pub record SomeNotZero (ws : List ℤ) : Type 0 where
-  pub place : ℕ
-  pub within : place < length ws
-  pub not-zero : NotZero (getD ws place (pos 0))
+each-zero (z ∷ zs) e zero = first-and-rest z zs e .0
+each-zero (z ∷ zs) e (suc i) = each-zero zs (first-and-rest z zs e .1) i
 
 pub some-not-zero : (ws : List ℤ) → allZero ws ≡ false → SomeNotZero ws
 unfolding allZero

@@ -88,7 +88,7 @@ odd-and-even-listed : listing oddAndEvenSheet ≡ text "formulas 2\n1 odd -1 1\n
 unfolding allZero boundOf roundedUp listing countLine refusalLine linesFrom lineOf digitsBy decimal formulaCount walkOf walkFrom faultAt foundBy ending frameFault bytesAt recordFault lengthFault sizeFault countFault outside startFault scaleFault orderFault endFault valueFault ownFault intervalFault wordsFault number2 number4 words rows firstRow rowOf firstCount fieldOf shapeOf piecesBy formulaOf
 odd-and-even-listed = refl
 
--- the paper's root with zeros in a polynomial's place behind it: what four hundred boards were loaded with
+-- the paper's root, and behind it a polynomial whose two coefficients are zero
 abbrev blankSheet : List ℕ
 blankSheet =
     8 ∷ 0 ∷ 0 ∷ 0 ∷ 1 ∷ 0 ∷ 2 ∷ 0

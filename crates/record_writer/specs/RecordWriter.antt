@@ -2,17 +2,20 @@
 use Prim.Native.Nat.{ℕ}
 use mathlib.Core.Path.{_≡_, refl}
 use mathlib.Core.List.{List, [], _∷_}
-use mathlib.Core.Bool.{cond}
+use mathlib.Core.Bool.{true, cond}
+use native.Mathlib.Omega.{arith}
 use lib.Dec.{eqb, ltb}
 use lib.ListN.{length, replicate}
 use lib.Seq.{sets}
 use lib.IntN.{pos}
 use Rattle.word.specs.Rounded.{roundedUp}
+use Rattle.word.specs.Words.{Scale}
 use Rattle.stored.specs.Numbers.{bytes2, bytes4}
 use Rattle.polynomial.specs.Polynomial.{bound, boundOf}
 use Rattle.formula.specs.declared.Kind.the-variants.{Polynomial, Rational, Root, NoFormula}
 use Rattle.formula.specs.declared.Formula.{Formula}
-use Rattle.formula.specs.Blank.{allZero}
+use Rattle.formula.specs.Blank.{allZero, blankOf}
+use Rattle.table.specs.declared.Class.the-variants.{FormulaRecord}
 use Rattle.table.specs.declared.Row.{Row}
 use Rattle.table.specs.Table.{rows, firstRow, rowOf, piecesBy, lengthBy}
 use Rattle.table.specs.Codes.{codeFor}
@@ -65,6 +68,15 @@ putInto f l = cond (eqb (countsFault f) 0) (sets l 0 (bytesOf f)) l
 -- what the reader's own check makes of a record's bytes, as those of the first of one formula
 unfoldable pub judgedWriting : ℕ → List ℕ → ℕ → Writing
 judgedWriting s b room = guard (orElse (onlyFormula (rowFor b .class)) (formulaFault s (rowFor b) b 0 1 0)) refusedBy (roomWriting (length b) room)
+
+-- a blank formula of which nothing else is wrong: kind, binary places, counts, interval, mode and words are without fault
+pub record OnlyBlank (s : ℕ) (f : Formula) : Type 0 where
+  pub class : rowBy f .class ≡ FormulaRecord
+  pub scale : Scale s
+  pub counts : countFault (rowBy f) (plain f .shape .p) (plain f .shape .q) ≡ 0
+  pub own : ownFault (rowBy f) (plain f .shape) (plain f .lo) (plain f .hi) ≡ 0
+  pub words : wordsFault (wordsIn (plain f)) ≡ 0
+  pub blank : blankOf (plain f .shape) (wordsIn (plain f)) ≡ true
 
 -- ---- worked examples: the root of the paper's listing, with fields that a root has not
 abbrev exampleRoot : Formula
@@ -152,3 +164,7 @@ blank-refused :
     × (recordWriting 24 (formula 1 (shape Rational 1 1 0) (pos 0) (pos 0) (padded [])) 0 ≡ refusedBy 14)
 unfolding roundedUp boundOf rows firstRow rowOf codeFor piecesBy padded kept plainShape plainBy outside countFault intervalFault wordsFault allZero ownFault valueFault scaleFault roomWriting plainWriting recordWriting
 blank-refused = (refl, refl, refl, refl, refl)
+
+only-blank : OnlyBlank 24 (blank 1 0)
+unfolding rows firstRow rowOf codeFor padded kept plainShape plainBy outside countFault intervalFault wordsFault allZero ownFault
+only-blank = record { class = refl; scale = record { least = omega arith; most = omega arith }; counts = refl; own = refl; words = refl; blank = refl }

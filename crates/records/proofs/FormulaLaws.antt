@@ -1,4 +1,4 @@
--- A record's check by its code: a formula's, of which a root has no words and is never blank, or none that a formula has.
+-- A record's check by its code, which is a formula's or none that a formula has. A root has no words and is never blank, so that its front is all.
 use Rattle.whole.proofs.Basics.{_≡_, _∙_, refl, sym, ap, List, ℕ, arith}
 use Rattle.stored.specs.Words.{words}
 use Rattle.formula.specs.declared.Kind.{Kind}

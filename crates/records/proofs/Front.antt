@@ -1,4 +1,4 @@
--- A formula record's check by its code: the front, then what the kind's own admission has found over the words. What all kinds' checks
+-- A formula record's check by its code: the front, then 14 by the first words, then what the kind's own admission has found over the words. What all kinds' checks
 -- need, said once: of the row that was found, of the record past its front, and of the answer.
 use Rattle.whole.proofs.Basics.{_≡_, _∙_, refl, sym, ap, subst, Bool, true, false, cond, List, ℕ, _-_, _/_, _≤_, eqb, length, take, ℤ, eqb-true}
 use Rattle.word.specs.Lists.{Words}

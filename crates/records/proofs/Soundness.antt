@@ -1,5 +1,5 @@
 -- A formula record without faults 2, 6, 14, 7 and 8 is sound, not blank and admitted: what no fault says of each field.
-use Rattle.whole.proofs.Basics.{_≡_, refl, sym, subst, Bool, false, not, List, ℕ, _≤_, arith, T, length, ℤ, pos, _≤ℤ_, ltZ}
+use Rattle.whole.proofs.Basics.{_≡_, refl, sym, subst, Bool, true, false, not, List, ℕ, _≤_, arith, T, length, ℤ, pos, _≤ℤ_, ltZ}
 use lib.Signed.{ltZ-no}
 use Rattle.stored.proofs.WordsLaws.{length-words}
 use Rattle.admission.specs.Admission.{admissionNumber}
@@ -16,7 +16,7 @@ use Rattle.table.specs.Table.{Within}
 use Rattle.table.specs.Rule.{Ruled}
 use Rattle.layout.specs.Fields.{shapeOf, loOf, hiOf, wordsOf, Complete}
 use Rattle.faults.specs.Faults.{outside, wordFault, wordsFault, intervalFault, kindFault, ownFault, blankFault}
-use Rattle.faults.proofs.Chain.{passed, neither}
+use Rattle.faults.proofs.Chain.{pass, passed, neither}
 use Rattle.faults.proofs.Lengths.{inside}
 use Rattle.faults.proofs.Values.{word, each-word}
 use Rattle.records.specs.Records.{valueFault, innerFault}
@@ -59,8 +59,8 @@ module _ (s : ℕ) (r : Row) (h : Shape) (lo hi : ℤ) (ws : List ℤ) (e : valu
   unfolding valueFault
   behind-words = neither (blankFault h ws) _ (neither (wordsFault ws) _ (neither (ownFault r h lo hi) _ e .1) .1)
 
-  pub filled : blankOf h ws ≡ false
-  filled = passed (blankOf h ws) 14 0 (λ z. omega arith) (behind-words .0) .0
+  pub not-blank : blankOf h ws ≡ false
+  not-blank = passed (blankOf h ws) 14 0 (λ z. omega arith) (behind-words .0) .0
 
   pub admitted : admissionOf s h lo hi ws ≡ Admitted
   admitted = none (admissionOf s h lo hi ws) (behind-words .1)
@@ -69,6 +69,11 @@ module _ (s : ℕ) (r : Row) (h : Shape) (lo hi : ℤ) (ws : List ℤ) (e : valu
       none Admitted z = refl
       none RangeLeft z = absurd (omega arith)
       none DivisorZero z = absurd (omega arith)
+
+-- a blank one of which nothing else is wrong has 14
+pub fourteen : (s : ℕ) (r : Row) (h : Shape) (lo hi : ℤ) (ws : List ℤ) → ownFault r h lo hi ≡ 0 → wordsFault ws ≡ 0 → blankOf h ws ≡ true → valueFault s r h lo hi ws ≡ 14
+unfolding valueFault
+fourteen s r h lo hi ws o w b = sym (pass refl o (pass refl w (rw b refl)))
 
 -- of a complete record's own bytes
 pub sound-record : (s : ℕ) (r : Row) (b : List ℕ) → Complete r b → innerFault s r b ≡ 0 → Sound (shapeOf r b) (loOf b) (hiOf b) (wordsOf r b)

@@ -2,7 +2,7 @@
 use Prim.Native.Nat.{ℕ}
 use mathlib.Core.Path.{_≡_, refl}
 use mathlib.Core.List.{List, [], _∷_, _++_}
-use lib.IntN.{ℤ}
+use lib.IntN.{ℤ, pos, negsuc}
 use Rattle.word.specs.Rounded.{roundedUp}
 use Rattle.stored.specs.Numbers.{number2, number4, bytes2, bytes4}
 use Rattle.stored.specs.Words.{words}
@@ -36,7 +36,7 @@ valueFault s r h lo hi ws =
 abbrev pub innerFault : ℕ → Row → List ℕ → ℕ
 innerFault s r b = valueFault s r (shapeOf r b) (loOf b) (hiOf b) (wordsOf r b)
 
--- from the words on, of a formula that is not blank, by what admission has found where it stopped at the first fault: it admits words alone
+-- of a formula that is not blank, 6 of its words, then 7 or 8, by what admission has found: it stops at the first fault, and admits words alone
 abbrev pub judgedFault : List ℤ → Admission → ℕ
 judgedFault ws Admitted = 0
 judgedFault ws RangeLeft = orElse (wordsFault ws) 7
@@ -104,6 +104,15 @@ range-first :
     × (formulaFault 24 (rowOf 0x0011) (recorded 32 0x0011 5 0 16777216 (bytes2 2 ++ (bytes2 1 ++ (bytes4 2147483647 ++ (bytes4 2147483647 ++ bytes4 0))))) 0 1 5 ≡ 7)
 unfolding bytes2 bytes4 number2 number4 words rows firstRow rowOf firstCount fieldOf shapeOf piecesBy outside countFault sizeFault lengthFault orderFault intervalFault ownFault wordsFault allZero bound boundOf roundedUp valueFault formulaFault
 range-first = (refl, refl)
+
+-- where admission has stopped at a number that is no word, 6
+stopped-at-no-word :
+    (judgedFault (pos 1 ∷ []) RangeLeft ≡ 7)
+    × (judgedFault (pos 1 ∷ []) DivisorZero ≡ 8)
+    × (judgedFault (negsuc 2147483647 ∷ []) RangeLeft ≡ 6)
+    × (judgedFault (negsuc 2147483647 ∷ []) DivisorZero ≡ 6)
+unfolding wordsFault
+stopped-at-no-word = (refl, refl, refl, refl)
 
 -- odd and even, up to twelve, whose square is no word (7): 2 comes before for one byte too many, 6 for a coefficient that is no word. Up to two an
 -- odd one leaves the range by its last product, which an even one has not

@@ -52,8 +52,8 @@ fn words_first(b: &[u8], at: usize, m: usize, number: u8) -> u8
     number
 }
 
-// A blank formula's number: 6 of its words, which stand from a place to the record's end; then 14.
-fn blank_fault(b: &[u8], at: usize) -> u8
+// The number of a formula that was found blank: 6 of its words, which stand from a place to the record's end; else 14.
+fn blank_number(b: &[u8], at: usize) -> u8
     requires { ⌜ at ≤ length (now b) ⌝ }
     ensures { λ r. ⌜ r ≡ orElse (wordsFault (words (now (b .entry)) at ((length (now (b .entry)) - at) / 4))) 14 ⌝ }
 {
@@ -92,7 +92,7 @@ fn polynomial_fault(b: &[u8], seen: u16, count: u16, next: u32, s: u32) -> u8
     }
     let p = layout::shape_of(b, row).p as usize;
     if parts::all_zero(b, row.head, p) {
-        return blank_fault(b, row.head);
+        return blank_number(b, row.head);
     }
     let found = polynomial::admit(b, row.head, p, most(b), s);
     admission_fault(b, row.head, found)
@@ -111,7 +111,7 @@ fn rational_fault(b: &[u8], seen: u16, count: u16, next: u32, s: u32) -> u8
     let p = shape.p as usize;
     // the numerator's words stand first
     if parts::all_zero(b, row.head, p) {
-        return blank_fault(b, row.head);
+        return blank_number(b, row.head);
     }
     let found = rational::admit(b, row.head, p, shape.q as usize, most(b), s);
     admission_fault(b, row.head, found)
@@ -130,7 +130,7 @@ fn fraction_fault(b: &[u8], seen: u16, count: u16, next: u32, s: u32) -> u8
         return f;
     }
     if parts::all_zero(b, row.head, B0_AND_A1) {
-        return blank_fault(b, row.head);
+        return blank_number(b, row.head);
     }
     let shape = layout::shape_of(b, row);
     let found = fraction_admission::admit(
@@ -163,7 +163,7 @@ fn odd_fault(b: &[u8], seen: u16, count: u16, next: u32, s: u32) -> u8
     }
     let p = layout::shape_of(b, row).p as usize;
     if parts::all_zero(b, row.head, p) {
-        return blank_fault(b, row.head);
+        return blank_number(b, row.head);
     }
     let found = odd_even::admit_odd(b, row.head, p, most(b), s);
     admission_fault(b, row.head, found)
@@ -180,7 +180,7 @@ fn even_fault(b: &[u8], seen: u16, count: u16, next: u32, s: u32) -> u8
     }
     let p = layout::shape_of(b, row).p as usize;
     if parts::all_zero(b, row.head, p) {
-        return blank_fault(b, row.head);
+        return blank_number(b, row.head);
     }
     let found = odd_even::admit_even(b, row.head, p, most(b), s);
     admission_fault(b, row.head, found)

@@ -1,11 +1,12 @@
 -- The place that the walk notes is that of a record with the number asked for, or 0 where there is none.
-use Rattle.whole.proofs.Basics.{_≡_, _∙_, refl, sym, ap, subst, Bool, true, false, cond, _⊎_, inl, inr, List, [], _∷_, _++_, append-assoc, append-nil, ℕ, suc, zero, _+_, arith, eqb, length, length-append, eqb-true, eqb-false, le-ltb}
+use Rattle.whole.proofs.Basics.{_≡_, _∙_, refl, sym, ap, subst, Bool, true, false, cond, _⊎_, inl, inr, List, [], _∷_, _++_, append-assoc, append-nil, ℕ, suc, zero, _+_, _≤_, arith, eqb, length, length-append, eqb-true, eqb-false, le-ltb}
 use native.Mathlib.Nat.{add-zero}
 use Rattle.table.specs.declared.Class.the-variants.{FormulaRecord}
 use Rattle.layout.specs.Fields.{bytesAt, formulaNumber}
 use Rattle.faults.proofs.Frames.{framed, reaches}
-use Rattle.records.specs.Sheets.{FormulaBytes, EachFormula, inLine, Has, SheetOf}
+use Rattle.records.specs.Sheets.{FormulaBytes, EachFormula, Rising, inLine, Has, SheetOf}
 use Rattle.walking.specs.Walking.{walkOf, Walkable}
+use Rattle.walking.specs.Refused.{nextNumber}
 use Rattle.walking.specs.declared.Walked.{Walked}
 use Rattle.walking.specs.declared.Walked.the-variants.{Whole, Broken}
 use Rattle.walking.proofs.Records.{frame-there, bytes-there}
@@ -69,9 +70,19 @@ has n at k fs a = subst (Has n) (sym (a .is)) (in-middle (a .before))
     in-middle [] = inl (a .number)
     in-middle (x ∷ l) = inr (in-middle l)
 
+-- one of several records: what is known of it
 middle : (s : ℕ) (l r : List (List ℕ)) (b : List ℕ) → EachFormula s (l ++ (b ∷ r)) → FormulaBytes s b
 middle s [] r b e = e .0
 middle s (x ∷ l) r b e = middle s l r b (e .1)
+
+-- and of what stands before it
+pub each-before : (s : ℕ) (l : List (List ℕ)) (b : List ℕ) (r : List (List ℕ)) → EachFormula s (l ++ (b ∷ r)) → EachFormula s l
+each-before s [] b r h = tt
+each-before s (x ∷ l) b r h = (h .0, each-before s l b r (h .1))
+
+pub rising-before : (n : ℕ) (l : List (List ℕ)) (b : List ℕ) (r : List (List ℕ)) → Rising n (l ++ (b ∷ r)) → Rising n l × (nextNumber n l ≤ formulaNumber b)
+rising-before n [] b r h = (tt, h .0)
+rising-before n (x ∷ l) b r h = let t = rising-before (formulaNumber x + 1) l b r (h .1) in ((h .0, t .0), t .1)
 
 in-line-append : (l r : List (List ℕ)) → inLine (l ++ r) ≡ inLine l ++ inLine r
 in-line-append [] r = refl

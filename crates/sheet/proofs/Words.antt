@@ -12,7 +12,7 @@ use Rattle.layout.proofs.Complete.{complete}
 use Rattle.layout.proofs.Padded.{take-padded}
 use Rattle.faults.proofs.Lengths.{laid}
 use Rattle.records.specs.Sheets.{RecordOf, FormulaBytes}
-use Rattle.records.proofs.Soundness.{filled, admitted, sound-record}
+use Rattle.records.proofs.Soundness.{not-blank, admitted, sound-record}
 use Rattle.sheet.specs.Reader.{formulaIn, Fit}
 
 pub complete-record : (b : List ℕ) → RecordOf FormulaRecord b → Complete (rowFor b) b
@@ -33,6 +33,6 @@ fit s b f =
     let e = sym (words-in r b) in
     record {
       sound = subst (λ (ws : List ℤ). Sound h (loOf b) (hiOf b) ws) e (sound-record s r b (complete-record b (f .one)) (f .inner));
-      filled = subst (λ (ws : List ℤ). blankOf h ws ≡ false) e (filled s r h (loOf b) (hiOf b) (wordsOf r b) (f .inner));
+      not-blank = subst (λ (ws : List ℤ). blankOf h ws ≡ false) e (not-blank s r h (loOf b) (hiOf b) (wordsOf r b) (f .inner));
       admitted = subst (λ (ws : List ℤ). admissionOf s h (loOf b) (hiOf b) ws ≡ Admitted) e (admitted s r h (loOf b) (hiOf b) (wordsOf r b) (f .inner));
     }

@@ -1,8 +1,9 @@
 -- What the reader answers, at s binary places: the formula count of a sheet, and the formula of a number.
 use Prim.Native.Nat.{ℕ, zero, suc}
-use mathlib.Core.Path.{_≡_, refl}
+use mathlib.Core.Path.{_≡_, refl, subst}
 use mathlib.Core.Bool.{false}
 use mathlib.Core.List.{List, [], _∷_}
+use lib.Dec.{T}
 use lib.ListN.{replicate}
 use lib.IntN.{pos}
 use Rattle.word.specs.Words.{Scale}
@@ -14,7 +15,7 @@ use Rattle.formula.specs.declared.Formula.{Formula}
 use Rattle.formula.specs.Formula.{Sound, admissionOf}
 use Rattle.formula.specs.Blank.{allZero, blankOf}
 use Rattle.table.specs.Table.{rows, firstRow, rowOf, piecesBy}
-use Rattle.layout.specs.Fields.{bytesAt, Reaches, rowFor, firstCount, fieldOf, shape, shapeOf, padded, formula, formulaOf, wordsIn}
+use Rattle.layout.specs.Fields.{bytesAt, Reaches, rowFor, firstCount, fieldOf, shape, shapeOf, wordsOf, padded, formula, formulaOf, wordsIn}
 use Rattle.faults.specs.Faults.{frameFault, outside, countFault, sizeFault, lengthFault, startFault, scaleFault, orderFault, endFault, ownFault, intervalFault, wordsFault}
 use Rattle.faults.specs.Guard.{refusal}
 use Rattle.faults.specs.Refusals.{OneOf, sheetRefusals}
@@ -129,8 +130,13 @@ HasFormula s bytes n = foundNumber (formulaRead s bytes n .found) ≡ 0
 -- ---- a formula that is sound, not blank and admitted
 pub record Fit (s : ℕ) (f : Formula) : Type 0 where
   pub sound : Sound (f .shape) (f .lo) (f .hi) (wordsIn f)
-  pub filled : blankOf (f .shape) (wordsIn f) ≡ false
+  pub not-blank : blankOf (f .shape) (wordsIn f) ≡ false
   pub admitted : admissionOf s (f .shape) (f .lo) (f .hi) (wordsIn f) ≡ Admitted
+
+-- the formulas of records, none of them blank
+abbrev pub NoneBlank : List (List ℕ) → Type 0
+NoneBlank [] = Unit
+NoneBlank (b ∷ bs) = (blankOf (shapeOf (rowFor b) b) (wordsOf (rowFor b) b) ≡ false) × NoneBlank bs
 
 -- a formula record without fault stands at a place
 pub record FormulaStands (s : ℕ) (bytes : List ℕ) (place : ℕ) : Type 0 where
@@ -194,3 +200,12 @@ oneBlank =
 one-blank : (formulaCount 24 oneBlank ≡ Refused (refusal 8 14)) × (formulaPlace 24 oneBlank 5 ≡ Absent (refusal 8 14)) × (formulaPlace 24 oneBlank 6 ≡ Absent (refusal 8 14))
 unfolding formulaCount formulaPlace walkOf walkFrom faultAt frameFault bytesAt recordFault lengthFault sizeFault countFault outside startFault scaleFault orderFault valueFault ownFault intervalFault wordsFault allZero number2 number4 words rows firstRow rowOf firstCount fieldOf shapeOf piecesBy
 one-blank = (refl, refl, refl)
+
+-- a blank formula does not fit, and neither is its record among such as none of them is blank
+blank-does-not-fit : Fit 24 (formulaAt oneBlank 8) → ⊥
+unfolding number2 number4 words rows firstRow rowOf firstCount fieldOf shapeOf padded formulaOf bytesAt allZero
+blank-does-not-fit f = subst T (f .not-blank) tt
+
+nor-its-record : NoneBlank (bytesAt oneBlank 8 ∷ []) → ⊥
+unfolding number2 number4 words rows firstRow rowOf firstCount fieldOf shapeOf bytesAt allZero
+nor-its-record h = subst T (h .0) tt

@@ -1,27 +1,48 @@
--- Promise: the sheet writer refuses a run that has a blank record, at its place by 14 or by a number that comes before it, or at an earlier record.
-use Rattle.whole.proofs.Basics.{_≡_, _∙_, ap, subst, List, [], _++_, ℕ, _+_, arith, length, length-append, ne-eqb, eq-eqb}
+-- Promise: the sheet writer refuses a run that has a blank record: at its place by 14 or by a number that comes before it, or at an earlier place. Behind
+-- formulas without fault, with nothing else wrong with it, it is refused by 14 at its place, whatever stands behind it and whatever the room.
+use Rattle.whole.proofs.Basics.{_≡_, _∙_, refl, ap, Bool, true, false, inr, List, [], _∷_, _++_, ℕ, _+_, _≤_, arith, eqb, length, length-append, eqb-true, eqb-false, eq-eqb, ne-eqb}
 use Rattle.word.specs.Words.{Scale}
-use Rattle.table.specs.Codes.{startRow}
+use Rattle.faults.specs.Guard.{refusal}
 use Rattle.faults.specs.Faults.{scaleFault}
+use Rattle.faults.specs.Refusals.{recordRefusals}
 use Rattle.faults.specs.declared.Refusal.{Refusal}
+use Rattle.faults.proofs.FaultSets.{one-of, some, scale-set}
 use Rattle.faults.proofs.ScaleLaws.{no-scale-fault}
 use Rattle.records.specs.Sheets.{inLine}
 use Rattle.walking.specs.Walking.{begin, walkOf}
-use Rattle.walking.specs.Refused.{EachRecord, BlankBytes, BlankOrBefore}
+use Rattle.walking.specs.BlankRecords.{BlankBehind, BlankOrBefore, BlankNext}
 use Rattle.walking.specs.declared.Walked.{Walked}
-use Rattle.walking.proofs.BlankMet.{blank-met}
+use Rattle.walking.specs.declared.Walked.the-variants.{Broken}
+use Rattle.walking.proofs.Going.{run-room}
+use Rattle.walking.proofs.BlankMet.{blank-met, fourteen-met}
 use Rattle.sheet.specs.Reader.{noNumber}
 use Rattle.record_writer.specs.declared.answers.Writing.the-variants.{Refused}
 use Rattle.sheet_writer.specs.SheetWriter.{walkedWriting, sheetWriting}
 use Rattle.sheet_writer.proofs.SheetLaws.{start-head}
 
-pub blank-run : (s : ℕ) (run : List ℕ) (room : ℕ) (records : List (List ℕ)) (b after : List ℕ) → Scale s → EachRecord records → BlankBytes b → run ≡ inLine records ++ (b ++ after)
-    → (r : Refusal) × (sheetWriting s run room ≡ Refused r) × BlankOrBefore (8 + length (inLine records)) r
+-- a run that is not empty, at a board's places, is written as its walk says
+by-walk : (s : ℕ) (run : List ℕ) (room : ℕ) (r : Refusal) → scaleFault s ≡ 0 → 8 ≤ length run → walkOf s run 8 noNumber ≡ Broken r → sheetWriting s run room ≡ Refused r
+unfolding sheetWriting
+by-walk s run room r z l e =
+    rw (eq-eqb (scaleFault s) 0 z, ne-eqb (length run) 0 (λ n. omega (arith, n, l)))
+    (ap (λ (w : Walked). walkedWriting w (length run) room) (ap (λ (n : ℕ). walkOf s run n noNumber) start-head ∙ e))
+
+-- a record at least stands in it
+long : (before b after run : List ℕ) → run ≡ before ++ (b ++ after) → 8 ≤ length b → 8 ≤ length run
+long before b after run q l = omega (arith, ap length q, length-append before (b ++ after), length-append b after, l)
+
+pub blank-run : (s : ℕ) (run : List ℕ) (room : ℕ) (h : BlankBehind run) → (r : Refusal) × (sheetWriting s run room ≡ Refused r) × BlankOrBefore (8 + length (inLine (h .records))) r
 unfolding sheetWriting walkOf
-blank-run s run room records b after k e h q =
-    let m = blank-met s run (startRow .head) 66 records [] b after (begin (startRow .head) noNumber) e h q (omega arith) (λ z. omega (arith, z, start-head)) in
-    let long : length run ≡ length (inLine records) + (length b + length after) = ap length q ∙ length-append (inLine records) (b ++ after) ∙ ap (λ (n : ℕ). length (inLine records) + n) (length-append b after) in (
-      m .0,
-      rw (eq-eqb (scaleFault s) 0 (no-scale-fault s k), ne-eqb (length run) 0 (λ z. omega (arith, z, long, h .one .least))) (ap (λ (w : Walked). walkedWriting w (length run) room) (m .1)),
-      subst (λ (n : ℕ). BlankOrBefore (n + length (inLine records)) (m .0)) start-head (m .2),
-    )
+blank-run s run room h = at (eqb (scaleFault s) 0) refl
+  where
+    at : (t : Bool) → eqb (scaleFault s) 0 ≡ t → (r : Refusal) × (sheetWriting s run room ≡ Refused r) × BlankOrBefore (8 + length (inLine (h .records))) r
+    at true f =
+        let m = blank-met s run 8 66 (h .records) [] (h .blank) (h .after) (begin 8 noNumber) (h .each) (h .is) (h .whole) (omega arith) (λ z. omega (arith, z)) in
+        (m .0, by-walk s run room (m .0) (eqb-true _ _ f) (long (inLine (h .records)) (h .blank) (h .after) run (h .whole) (h .is .one .least)) (m .1), m .2)
+    at false f = (refusal 0 (scaleFault s), rw f refl, inr (omega arith, some recordRefusals _ (eqb-false _ _ f) (scale-set recordRefusals (one-of (0 ∷ recordRefusals) 6 tt) s)))
+
+pub fourteen-run : (s : ℕ) (run : List ℕ) (room : ℕ) → Scale s → (h : BlankNext s 64 run) → sheetWriting s run room ≡ Refused (refusal (8 + length (inLine (h .formulas))) 14)
+unfolding walkOf
+fourteen-run s run room k h =
+    by-walk s run room _ (no-scale-fault s k) (long (inLine (h .formulas)) (h .blank) (h .after) run (h .whole) (h .is .one .least))
+    (fourteen-met s run 8 [] run 64 h refl (begin 8 noNumber) (omega arith) (λ z. omega (arith, z)) refl refl (run-room 7 noNumber) 66 (omega (arith, h .room)))

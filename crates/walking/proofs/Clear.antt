@@ -33,10 +33,6 @@ module _ (s : ℕ) (bytes : List ℕ) (from : ℕ) (w : Walk) where
       let l = neither (lengthFault (rowFor b) b) _ (p .1) in
       record { frame = f .0; place = p .0; size = l .0; content = l .1 }
 
-  pub no-fault : Clear s bytes from w (recordHere bytes from w) → faultAt s bytes from w ≡ 0
-  unfolding faultAt recordFault
-  no-fault c = rw (eq-eqb _ _ (c .frame), eq-eqb _ _ (c .place), eq-eqb _ _ (c .size)) (c .content)
-
 -- ---- each class by itself
 later : (at x : ℕ) → cond (eqb at 0) 3 x ≡ 0 → (at ≡ 0 → ⊥) × (x ≡ 0)
 later at x e = let p = passed (eqb at 0) 3 x (λ z. omega arith) e in (eqb-false at 0 (p .0), p .1)

@@ -1,15 +1,17 @@
 -- A stretch of formula records, one behind the other: the walk goes past each, and is then where the next record stands.
-use Rattle.whole.proofs.Basics.{_≡_, _∙_, refl, sym, ap, subst, false, cond, List, [], _∷_, _++_, append-assoc, ℕ, suc, zero, _+_, _-_, _≤_, arith, eqb, length, length-append, ne-eqb, le-ltb}
+use Rattle.whole.proofs.Basics.{_≡_, _∙_, refl, sym, ap, false, cond, List, [], _∷_, _++_, append-assoc, ℕ, suc, zero, _+_, _-_, _≤_, arith, eqb, length, length-append, eq-eqb, ne-eqb, le-ltb}
 use native.Mathlib.Nat.{zero-add}
 use Rattle.table.specs.declared.Class.{Class}
 use Rattle.table.specs.declared.Class.the-variants.{FormulaRecord}
 use Rattle.layout.specs.Fields.{rowFor, formulaNumber}
-use Rattle.faults.specs.Faults.{orderFault}
+use Rattle.faults.specs.Guard.{orElse, refusal}
+use Rattle.faults.specs.Faults.{frameFault, lengthFault, orderFault}
 use Rattle.records.specs.Sheets.{RecordOf, FormulaBytes, EachFormula, Rising, inLine}
-use Rattle.walking.specs.Walking.{placeFault, classFault, recordHere, foundBy, afterFormula, onward, runDone, walkFrom}
+use Rattle.walking.specs.Walking.{placeFault, classFault, recordFault, recordHere, faultAt, foundBy, afterFormula, onward, runDone, walkFrom}
 use Rattle.walking.specs.Refused.{nextNumber}
 use Rattle.walking.specs.declared.Walk.{Walk}
-use Rattle.walking.proofs.Clear.{Clear, no-fault, walk-on}
+use Rattle.walking.specs.declared.Walked.the-variants.{Broken}
+use Rattle.walking.proofs.Clear.{walk-broken, walk-on}
 use Rattle.walking.proofs.Records.{frame-there, bytes-there}
 
 -- the place that a walk notes on its way over formulas
@@ -24,7 +26,7 @@ afterAll (b ∷ bs) w = afterAll bs (afterFormula b w)
 
 module _ (s : ℕ) (bytes : List ℕ) (from : ℕ) where
   -- a run is not done before a record
-  pub not-done : (before b after : List ℕ) (w : Walk) → bytes ≡ before ++ (b ++ after) → w .at ≡ from + length before → 8 ≤ length b → runDone bytes from w ≡ false
+  not-done : (before b after : List ℕ) (w : Walk) → bytes ≡ before ++ (b ++ after) → w .at ≡ from + length before → 8 ≤ length b → runDone bytes from w ≡ false
   not-done before b after w q a l = by from refl
     where
       long : length bytes ≡ length before + (length b + length after)
@@ -34,28 +36,42 @@ module _ (s : ℕ) (bytes : List ℕ) (from : ℕ) where
       by zero e = refl
       by (suc n) e = ne-eqb (w .at - suc n) (length bytes) (λ z. omega (arith, z, a, e, long, l))
 
-  -- a record of a class stands at the walk's place, without fault: the walk goes on by its class
+  -- a record of a class that may stand at the walk's place: the walk's fault is that of its content
+  here : (before b after : List ℕ) (k : Class) (w : Walk) → RecordOf k b → bytes ≡ before ++ (b ++ after) → w .at ≡ from + length before → recordHere bytes from w ≡ b
+  here before b after k w r q a =
+      let i : w .at - from ≡ length before = omega (arith, a) in
+      rw (i, q) (bytes-there before b after k r)
+
+  pub content-fault : (before b after : List ℕ) (k : Class) (w : Walk) → RecordOf k b → bytes ≡ before ++ (b ++ after) → w .at ≡ from + length before → placeFault from k (w .at) ≡ 0 → faultAt s bytes from w ≡ classFault s k (rowFor b) b w
+  unfolding faultAt recordFault
+  content-fault before b after k w r q a p =
+      let i : w .at - from ≡ length before = omega (arith, a) in
+      let frame : frameFault bytes (w .at - from) ≡ 0 = rw (i, q) (frame-there before b after k r) in
+      rw (here before b after k w r q a, eq-eqb (frameFault bytes (w .at - from)) 0 frame)
+      (ap (λ (j : Class). orElse (placeFault from j (w .at)) (orElse (lengthFault (rowFor b) b) (classFault s j (rowFor b) b w))) (r .class)
+      ∙ rw (eq-eqb (placeFault from k (w .at)) 0 p, eq-eqb (lengthFault (rowFor b) b) 0 (r .exact)) refl)
+
+  -- without one the walk goes on by the class, else it is broken there
   pub goes-on : (before b after : List ℕ) (k : Class) (w : Walk) (n : ℕ) → RecordOf k b → bytes ≡ before ++ (b ++ after) → w .at ≡ from + length before → placeFault from k (w .at) ≡ 0 → classFault s k (rowFor b) b w ≡ 0
       → walkFrom (suc n) s bytes from w ≡ onward (walkFrom n s bytes from) k b w (length bytes)
   goes-on before b after k w n r q a p c =
-      let i : w .at - from ≡ length before = omega (arith, a) in
-      let h : recordHere bytes from w ≡ b = rw (i, q) (bytes-there before b after k r) in
-      let fine : Clear s bytes from w b =
-      record {
-        frame = rw (i, q) (frame-there before b after k r);
-        place = subst (λ (j : Class). placeFault from j (w .at) ≡ 0) (sym (r .class)) p;
-        size = r .exact;
-        content = subst (λ (j : Class). classFault s j (rowFor b) b w ≡ 0) (sym (r .class)) c;
-      } in
-      walk-on s bytes from w n (not-done before b after w q a (r .least)) (no-fault s bytes from w (subst (Clear s bytes from w) (sym h) fine))
-      ∙ ap (λ (x : List ℕ). onward (walkFrom n s bytes from) (rowFor x .class) x w (length bytes)) h
+      walk-on s bytes from w n (not-done before b after w q a (r .least)) (content-fault before b after k w r q a p ∙ c)
+      ∙ ap (λ (x : List ℕ). onward (walkFrom n s bytes from) (rowFor x .class) x w (length bytes)) (here before b after k w r q a)
       ∙ ap (λ (j : Class). onward (walkFrom n s bytes from) j b w (length bytes)) (r .class)
+
+  pub stops-at : (before b after : List ℕ) (w : Walk) (n : ℕ) → 8 ≤ length b → bytes ≡ before ++ (b ++ after) → w .at ≡ from + length before → (faultAt s bytes from w ≡ 0 → ⊥)
+      → walkFrom (suc n) s bytes from w ≡ Broken (refusal (w .at) (faultAt s bytes from w))
+  stops-at before b after w n l q a f = walk-broken s bytes from w n (not-done before b after w q a l) refl f
+
+  -- a formula may stand anywhere but at 0
+  pub in-place : (at : ℕ) → (at ≡ 0 → ⊥) → placeFault from FormulaRecord at ≡ 0
+  in-place at z = simp (ne-eqb at 0 z)
 
   past-one : (before b after : List ℕ) (w : Walk) (k : ℕ) → bytes ≡ before ++ (b ++ after) → w .at ≡ from + length before → (w .at ≡ 0 → ⊥) → (w .seen ≡ w .count → ⊥) → FormulaBytes s b → w .next ≤ formulaNumber b
       → walkFrom (suc k) s bytes from w ≡ walkFrom k s bytes from (afterFormula b w)
   unfolding orderFault
   past-one before b after w k q a z m f o =
-      goes-on before b after FormulaRecord w k (f .one) q a (simp (ne-eqb (w .at) 0 z)) (simp (ne-eqb (w .seen) (w .count) m, le-ltb (formulaNumber b) (w .next) o) (f .inner))
+      goes-on before b after FormulaRecord w k (f .one) q a (in-place (w .at) z) (simp (ne-eqb (w .seen) (w .count) m, le-ltb (formulaNumber b) (w .next) o) (f .inner))
 
   pub past-all : (fs : List (List ℕ)) (before after : List ℕ) (w : Walk) (k : ℕ) → bytes ≡ before ++ (inLine fs ++ after) → w .at ≡ from + length before → (w .at ≡ 0 → ⊥) → w .seen + length fs ≤ w .count → EachFormula s fs → Rising (w .next) fs
       → walkFrom (length fs + k) s bytes from w ≡ walkFrom k s bytes from (afterAll fs w)

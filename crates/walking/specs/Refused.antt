@@ -1,17 +1,14 @@
 -- What a refusal's place says of a sheet's bytes, apart from the walk: all that stands before it is without fault, and what stands at it
--- is not; for 9, a whole sheet ends there; and what a blank record says of it. The binary places are s.
+-- is not; for 9, a whole sheet ends there. The binary places are s.
 use Prim.Native.Nat.{ℕ, _+_, _≤_, _<_}
 use mathlib.Core.Path.{_≡_}
-use mathlib.Core.Bool.{true}
 use mathlib.Core.List.{List, [], _∷_, _++_}
 use mathlib.Core.Logic.{_⊎_}
 use lib.ListN.{length}
 use Rattle.word.specs.Words.{Scale}
-use Rattle.formula.specs.Blank.{blankOf}
-use Rattle.table.specs.declared.Class.the-variants.{StartRecord, FormulaRecord}
-use Rattle.layout.specs.Fields.{rowFor, countOf, formulaNumber, shapeOf, wordsOf}
+use Rattle.table.specs.declared.Class.the-variants.{StartRecord}
+use Rattle.layout.specs.Fields.{countOf, formulaNumber}
 use Rattle.faults.specs.Guard.{refusal}
-use Rattle.faults.specs.Refusals.{OneOf, recordRefusals}
 use Rattle.records.specs.Sheets.{RecordOf, EachFormula, Rising, inLine, SheetOf}
 use Rattle.faults.specs.declared.Refusal.{Refusal}
 use Rattle.walking.specs.Walking.{walk, faultAt}
@@ -58,19 +55,3 @@ pub record BehindTheEnd (s : ℕ) (bytes : List ℕ) (r : Refusal) : Type 0 wher
 
 abbrev pub RefusedAt : ℕ → List ℕ → Refusal → Type 0
 RefusedAt s bytes r = AtTheStart s bytes r ⊎ (BehindFormulas s bytes r ⊎ BehindTheEnd s bytes r)
-
--- ---- blank records. Formula records with any numbers and values, and one whose formula is blank
-abbrev pub EachRecord : List (List ℕ) → Type 0
-EachRecord [] = Unit
-EachRecord (b ∷ bs) = RecordOf FormulaRecord b × EachRecord bs
-
-pub record BlankBytes (b : List ℕ) : Type 0 where
-  pub one : RecordOf FormulaRecord b
-  pub blank : blankOf (shapeOf (rowFor b) b) (wordsOf (rowFor b) b) ≡ true
-
--- with a blank one at a place, behind such records: refused there, by 14 or by 4, 5 or 6, which come before it; or at an earlier record
-abbrev pub blankRefusals : List ℕ
-blankRefusals = 4 ∷ 5 ∷ 6 ∷ 14 ∷ []
-
-abbrev pub BlankOrBefore : ℕ → Refusal → Type 0
-BlankOrBefore place r = ((r .place ≡ place) × OneOf blankRefusals (r .number)) ⊎ ((r .place < place) × OneOf recordRefusals (r .number))

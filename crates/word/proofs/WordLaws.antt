@@ -1,5 +1,5 @@
 -- The laws of product, quotient and their bounds, over the binary places: those of rounding, at a·b / 2^s and at a·2^s / d. The kinds use these.
-use Rattle.whole.proofs.Basics.{_≡_, _∙_, sym, ap, true, ℕ, suc, zero, _*_, _^_, _≤_, _<_, arith, ℤ, pos, negsuc, negℤ, natAbs, _-ℤ_, _*ℤ_}
+use Rattle.whole.proofs.Basics.{_≡_, _∙_, refl, sym, ap, subst, true, ℕ, suc, zero, _*_, _^_, _≤_, _<_, arith, T, ℤ, pos, negsuc, negℤ, natAbs, _-ℤ_, _*ℤ_}
 use native.Mathlib.Nat.{mul-le-mul, mul-le-mul-left}
 use lib.Pow.{pow-pos, pow-mono}
 use lib.IntN.{zero-*ℤ, negℤ-negℤ}
@@ -70,6 +70,15 @@ pub quotient-odd-dividend : (s : ℕ) (a d : ℤ) → quotientOf s (negℤ a) d 
 quotient-odd-dividend s a d =
     let m = a *ℤ pos (unit s) in
     ap (λ (z : ℤ). rounded z (natAbs d)) (ap (withSign (belowZero d)) (sign-mul true a (unit s)) ∙ sign-odd (belowZero d) m) ∙ rounded-odd (withSign (belowZero d) m) (natAbs d)
+
+-- so that of 0 is 0, by any divisor
+pub quotient-zero : (s : ℕ) (d : ℤ) → quotientOf s (pos 0) d ≡ pos 0
+quotient-zero s d = none (quotientOf s (pos 0) d) (quotient-odd-dividend s (pos 0) d)
+  where
+    none : (z : ℤ) → z ≡ negℤ z → z ≡ pos 0
+    none (pos zero) e = refl
+    none (pos (suc n)) e = absurd (subst T (sym (ap belowZero e)) tt)
+    none (negsuc n) e = absurd (subst T (ap belowZero e) tt)
 
 pub quotient-odd-divisor : (s : ℕ) (a d : ℤ) → quotientOf s a (negℤ d) ≡ negℤ (quotientOf s a d)
 quotient-odd-divisor s a (pos zero) = rounded-none (a *ℤ pos (unit s)) ∙ ap negℤ (sym (rounded-none (a *ℤ pos (unit s))))

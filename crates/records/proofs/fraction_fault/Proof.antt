@@ -43,15 +43,15 @@ blank : (c : tie.After-all-zero) →
     blankOf (shapeOf r b) (wordsOf r b) ≡ c .all-zero .result
 blank c = let e = c .before in blank-is (front (e .before)) (e .if1 .left) 2 (omega (arith, deep e)) (λ ws. refl) (c .all-zero .ensures)
 
-blank-fault-requires : tie.Need-blank-fault-requires
-blank-fault-requires c κs = let e = c .before .before in omega (arith, whole (front (e .before)) (e .if1 .left) .laid .exact)
+blank-number-requires : tie.Need-blank-number-requires
+blank-number-requires c κs = let e = c .before .before in omega (arith, whole (front (e .before)) (e .if1 .left) .laid .exact)
 
 returns-2 : tie.Need-returns-2
 unfolding codeFor firstRow rows
 returns-2 c =
     let t = c .before in
     let e = t .before .before in
-    blank-stops (front (e .before)) (e .if1 .left) (e .before .before .before .before .args .s) (c .blank-fault .ensures) (blank (t .before) ∙ t .if2 .taken)
+    blank-stops (front (e .before)) (e .if1 .left) (e .before .before .before .before .args .s) (c .blank-number .ensures) (blank (t .before) ∙ t .if2 .taken)
 
 shape-of-requires : tie.Need-shape-of-requires
 shape-of-requires c κs =
@@ -93,7 +93,7 @@ fraction-fault-spec =
     front-fault-requires
     returns
     all-zero-requires
-    blank-fault-requires
+    blank-number-requires
     returns-2
     shape-of-requires
     (λ c. search needs)
