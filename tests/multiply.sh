@@ -5,7 +5,7 @@ cd "$(dirname "$0")/.." || exit 2
 . tests/lib.sh
 need_library
 
-judge() { python3 tests/multiply.py word::multiply::times; }
+judge() { python3 tests/multiply.py multiply::times; }
 
 # The code before any pass of the compiler, since on a machine with a wide multiply it puts the halves together again.
 if rt mir valvepigeon >"$room/code" 2>"$room/log"; then pass; else fail "rt mir valvepigeon: $(tail -n 20 "$room/log")"; fi
@@ -19,11 +19,11 @@ refused() { # WHAT PATTERN NEW
     sed -E "s/$2/$3/" "$room/code" >"$room/wrong"
     if ! cmp -s "$room/code" "$room/wrong" && judge <"$room/wrong" | grep -q '^wrong'; then pass; else fail "not told: $1"; fi
 }
-times='("word::multiply::times" [^"]*)'
+times='("multiply::times" [^"]*)'
 refused 'factors of 32 bits' "$times\\(tyInt 16\\)" '\1(tyInt 32)'
 refused 'a factor that a call gives' "$times\\(assign \\(place 3 lnil\\) [^)]*\\) [^)]*\\)\\)\\)\\)" '\1(call (direct (fnRef "word::magnitude")) lnil (place 3 lnil))'
 refused 'a multiplication that is an addition' "$times\\(mul unsigned\\)" '\1(add unsigned)'
-refused 'a multiplication in another function' 'fn-def "word::multiply::times"' 'fn-def "word::multiply::other"'
+refused 'a multiplication in another function' 'fn-def "multiply::times"' 'fn-def "multiply::other"'
 refused 'a sum of two numbers that is a product' 'op2 \(add unsigned\)( \(copy \(place [0-9]+ lnil\)\)){2}' 'op2 (mul unsigned) (copy (place 1 lnil)) (copy (place 2 lnil))'
 refused 'a step of 16' '(mul unsigned\) \(int 64) 4\)' '\1 16)'
 refused 'a product of doubles' 'op2 floatDiv' 'op2 floatMul'

@@ -63,6 +63,6 @@ pub fn root(x: i32, s: u32) -> MarkedRoot
     MarkedRoot {
         root,
         steps: r.steps,
-        exact: word::multiply::long_times(root, root) == v,
+        exact: multiply::long_times(root, root) == v,
     }
 }

@@ -7,7 +7,7 @@ ghost use Rattle.table.specs.Codes.{codeFor};
 ghost use Rattle.table.specs.Lines.{line, fieldFrom};
 ghost use Rattle.table.specs.Rule.{Ruled};
 use formula::Kind;
-use word::multiply::times;
+use multiply::times;
 
 // What a record does in a sheet.
 pub enum Class {

@@ -1,5 +1,4 @@
--- Laws of the operations on words, lowest first; other crates use all but `MultiplyLaws` and `NearestLaws`.
-pub mod MultiplyLaws
+-- Laws of the operations on words, lowest first; other crates use all but `NearestLaws`.
 pub mod NearestLaws
 pub mod SignLaws
 pub mod RoundedLaws

@@ -2,5 +2,4 @@
 pub mod Rounded
 pub mod Words
 pub mod Exact
-pub mod Halves
 pub mod Lists

@@ -6,8 +6,6 @@ ghost use Rattle.word.specs.Rounded.{rounded};
 ghost use Rattle.word.specs.Words.{Scale, Factors, Division, unit, withSign, productOf, quotientOf, boundProduct, boundQuotient};
 ghost use Rattle.word.specs.Exact.{divides, exactProduct, exactQuotient, wholeAt};
 
-pub mod multiply;
-
 // A product or a quotient, rounded to a whole number. The last s binary digits of `loose` are 0 exactly where nothing was rounded off. A
 // walk joins the `loose` of its operations by `or`; the digits are looked at once, when the answer is done.
 pub struct Rounding {

@@ -3,7 +3,7 @@ use mathlib.Core.Path.{_≡_, refl}
 use Prim.Native.Nat.{ℕ, _+_, _*_, _/_, _%_, _^_, _≤_}
 use native.Mathlib.Omega.{arith}
 use lib.Dec.{lit≤}
-use Rattle.word.specs.declared.multiply.Halves.{Halves}
+use Rattle.multiply.specs.declared.Halves.{Halves}
 
 -- the upper and the lower 16 binary digits
 abbrev pub halvesOf : ℕ → Halves

@@ -1,7 +1,7 @@
--- `word::multiply::lower_word` meets its contract: what the sums let go of is a multiple of 2^32.
+-- `multiply::lower_word` meets its contract: what the sums let go of is a multiple of 2^32.
 use Rattle.whole.proofs.Basics.{arith, needs}
-use Rattle.word.proofs.multiply.lower_word.Statement.{statement}
-use Rattle.word.proofs.multiply.lower_word.Tie as tie
+use Rattle.multiply.proofs.lower_word.Statement.{statement}
+use Rattle.multiply.proofs.lower_word.Tie as tie
 
 pub lower-word-spec : {M : Type 1} → statement M
 lower-word-spec =

@@ -1,10 +1,10 @@
--- `word::multiply::long_times` meets its contract: its upper and its lower word make up what `long-is` speaks of.
+-- `multiply::long_times` meets its contract: its upper and its lower word make up what `long-is` speaks of.
 use Rattle.whole.proofs.Basics.{_≡_, ℕ, _+_, _*_, _^_, arith, needs}
 use native.Mathlib.Nat.{div-add-mod}
-use Rattle.word.specs.Halves.{middleAndLow}
-use Rattle.word.proofs.MultiplyLaws.{of-halves, long-is}
-use Rattle.word.proofs.multiply.long_times.Statement.{statement}
-use Rattle.word.proofs.multiply.long_times.Tie as tie
+use Rattle.multiply.specs.Halves.{middleAndLow}
+use Rattle.multiply.proofs.MultiplyLaws.{of-halves, long-is}
+use Rattle.multiply.proofs.long_times.Statement.{statement}
+use Rattle.multiply.proofs.long_times.Tie as tie
 
 -- ---- the four products
 module _ (c : tie.After-times4) where

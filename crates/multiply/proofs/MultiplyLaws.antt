@@ -1,8 +1,8 @@
 -- The laws of halves: they make up their number, and its products with another's halves make up the product.
 use Rattle.whole.proofs.Basics.{_≡_, _∙_, ap, ap₂, ℕ, _+_, _*_, _/_, _^_, _<_, arith}
 use native.Mathlib.Nat.{div-add-mod, mod-lt, mul-le-mul}
-use Rattle.word.specs.Halves.{OfHalves, halvesOf, middleAndLow}
-use Rattle.word.specs.declared.multiply.Halves.{Halves}
+use Rattle.multiply.specs.Halves.{OfHalves, halvesOf, middleAndLow}
+use Rattle.multiply.specs.declared.Halves.{Halves}
 
 pub high-below : (a : ℕ) → a < 2 ^ 32 → halvesOf a .high < 2 ^ 16
 high-below a h = omega (arith, div-add-mod a 65536)

@@ -1,10 +1,10 @@
--- `word::multiply::upper_word` meets its contract: a product of halves leaves room in 32 bits for two halves more, and `carried-is` says what these are.
+-- `multiply::upper_word` meets its contract: a product of halves leaves room in 32 bits for two halves more, and `carried-is` says what these are.
 use Rattle.whole.proofs.Basics.{_≡_, _∙_, ap, ℕ, _+_, _/_, _^_, arith, needs}
 use native.Mathlib.Nat.{add-assoc}
-use Rattle.word.specs.Halves.{middleAndLow}
-use Rattle.word.proofs.MultiplyLaws.{carried-is}
-use Rattle.word.proofs.multiply.upper_word.Statement.{statement}
-use Rattle.word.proofs.multiply.upper_word.Tie as tie
+use Rattle.multiply.specs.Halves.{middleAndLow}
+use Rattle.multiply.proofs.MultiplyLaws.{carried-is}
+use Rattle.multiply.proofs.upper_word.Statement.{statement}
+use Rattle.multiply.proofs.upper_word.Tie as tie
 
 add-split : tie.Need-add-split
 add-split c = record { fits = omega (arith, c .before .split .ensures .1 .0, c .before .before .pre .1) }

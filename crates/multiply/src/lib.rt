@@ -2,7 +2,7 @@
 // multiplied, by the size of what is counted, which is a shift.
 ghost use mathlib.Core.Path.{_≡_};
 ghost use Prim.Native.Nat.{_+_, _*_, _/_, _%_, _<_, _^_};
-ghost use Rattle.word.specs.Halves.{OfHalves, halvesOf, middleAndLow};
+ghost use Rattle.multiply.specs.Halves.{OfHalves, halvesOf, middleAndLow};
 
 // The upper and the lower 16 binary digits of a number.
 struct Halves {

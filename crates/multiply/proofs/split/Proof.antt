@@ -1,10 +1,10 @@
--- `word::multiply::split` meets its contract: the shift leaves the upper digits and the mask the lower ones.
+-- `multiply::split` meets its contract: the shift leaves the upper digits and the mask the lower ones.
 use Rattle.whole.proofs.Basics.{ap, ℕ, _/_, arith}
 use lib.Bits.{and-mask, mask-lt}
-use Rattle.word.specs.declared.multiply.Halves.{Halves}
-use Rattle.word.proofs.MultiplyLaws.{high-below}
-use Rattle.word.proofs.multiply.split.Statement.{statement}
-use Rattle.word.proofs.multiply.split.Tie as tie
+use Rattle.multiply.specs.declared.Halves.{Halves}
+use Rattle.multiply.proofs.MultiplyLaws.{high-below}
+use Rattle.multiply.proofs.split.Statement.{statement}
+use Rattle.multiply.proofs.split.Tie as tie
 
 abbrev made : ℕ → ℕ → Halves
 made h l = record { high = h; low = l }

@@ -1,0 +1,2 @@
+-- The laws of halves, which the proofs of the functions use.
+pub mod MultiplyLaws
