@@ -1,7 +1,7 @@
 -- Promise: a blank record is refused. Behind a start and formula records of any numbers and values it is refused at its place, by 14 or by a number that comes
 -- before it, or there is a refusal at an earlier place. Behind a start and formulas without fault, with nothing else wrong with it, it is refused by 14 at
 -- its place, whatever stands behind it; so it is in an otherwise accepted sheet.
-use Rattle.whole.proofs.Basics.{_≡_, _∙_, refl, sym, ap, subst, List, [], _∷_, _++_, ℕ, _+_, _≤_, arith, length, length-append}
+use Rattle.whole.proofs.Basics.{_≡_, ap, subst, List, [], _∷_, _++_, ℕ, _+_, _≤_, arith, length, length-append}
 use Rattle.word.specs.Words.{Scale}
 use Rattle.table.specs.declared.Class.the-variants.{StartRecord}
 use Rattle.layout.specs.Fields.{rowFor, countOf, formulaNumber, shapeOf, loOf, hiOf, wordsOf}
@@ -9,7 +9,6 @@ use Rattle.faults.specs.Guard.{refusal}
 use Rattle.faults.specs.Faults.{wordsFault, ownFault}
 use Rattle.faults.specs.declared.Refusal.{Refusal}
 use Rattle.records.specs.Sheets.{RecordOf, EachFormula, Rising, inLine, SheetOf}
-use Rattle.walking.specs.Refused.{nextNumber}
 use Rattle.walking.specs.BlankRecords.{BlankBytes, BlankBehind, BlankOrBefore, BlankNext}
 use Rattle.walking.proofs.BlankMet.{blank-walked, fourteen-walked}
 use Rattle.sheet.specs.Reader.{countAnswer, noNumber, formulaCount}

@@ -1,5 +1,5 @@
 -- What it says that there is no fault at the walk's place: the chain taken apart, and each class by itself.
-use Rattle.whole.proofs.Basics.{_≡_, refl, sym, subst, Bool, true, false, cond, List, ℕ, suc, _+_, _-_, _≤_, arith, eqb, ltb, length, eqb-true, eqb-false, ltb-false, eq-eqb}
+use Rattle.whole.proofs.Basics.{_≡_, refl, sym, subst, Bool, true, false, cond, List, ℕ, suc, _+_, _-_, _≤_, arith, eqb, ltb, length, eqb-true, eqb-false, ltb-false}
 use Rattle.word.specs.Words.{Scale}
 use Rattle.table.specs.declared.Class.{Class}
 use Rattle.table.specs.declared.Class.the-variants.{StartRecord, FormulaRecord, EndRecord, Unknown}
