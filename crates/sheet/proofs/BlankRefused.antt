@@ -1,5 +1,5 @@
 -- Promise: a blank record is refused. Behind a start and formula records of any numbers and values it is refused at its place, by 14 or by a number that comes
--- before it, or there is a refusal at an earlier place. Behind a start and formulas without fault, with nothing else wrong with it, it is refused by 14 at
+-- before it, or one of the records before it is refused. Behind a start and formulas without fault, with nothing else wrong with it, it is refused by 14 at
 -- its place, whatever stands behind it; so it is in an otherwise accepted sheet.
 use Rattle.whole.proofs.Basics.{_≡_, ap, subst, List, [], _∷_, _++_, ℕ, _+_, _≤_, arith, length, length-append}
 use Rattle.word.specs.Words.{Scale}
@@ -16,7 +16,7 @@ use Rattle.sheet.specs.declared.answers.FormulaCount.the-variants.{Refus
 use Rattle.sheet.proofs.Places.{around, each-before, rising-before}
 
 module _ (s : ℕ) (start rest : List ℕ) (o : RecordOf StartRecord start) where
-  pub blank-refused : (h : BlankBehind rest) → (r : Refusal) × (formulaCount s (start ++ rest) ≡ Refused r) × BlankOrBefore (length start + length (inLine (h .records))) r
+  pub blank-refused : (h : BlankBehind rest) → (r : Refusal) × (formulaCount s (start ++ rest) ≡ Refused r) × BlankOrBefore 0 (start ∷ h .records) r
   unfolding formulaCount
   blank-refused h =
       let m = blank-walked s start rest noNumber o h in

@@ -1,12 +1,10 @@
--- Promise: the sheet writer refuses a run that has a blank record: at its place by 14 or by a number that comes before it, or at an earlier place. Behind
+-- Promise: the sheet writer refuses a run that has a blank record: at its place by 14 or by a number that comes before it, or one of the records before it. Behind
 -- formulas without fault, with nothing else wrong with it, it is refused by 14 at its place, whatever stands behind it and whatever the room.
-use Rattle.whole.proofs.Basics.{_≡_, _∙_, refl, ap, Bool, true, false, inr, List, [], _∷_, _++_, ℕ, _+_, _≤_, arith, eqb, length, length-append, eqb-true, eqb-false, eq-eqb, ne-eqb}
+use Rattle.whole.proofs.Basics.{_≡_, _∙_, refl, ap, List, [], _++_, ℕ, _+_, _≤_, arith, length, length-append, eq-eqb, ne-eqb}
 use Rattle.word.specs.Words.{Scale}
 use Rattle.faults.specs.Guard.{refusal}
 use Rattle.faults.specs.Faults.{scaleFault}
-use Rattle.faults.specs.Refusals.{recordRefusals}
 use Rattle.faults.specs.declared.Refusal.{Refusal}
-use Rattle.faults.proofs.FaultSets.{one-of, some, scale-set}
 use Rattle.faults.proofs.ScaleLaws.{no-scale-fault}
 use Rattle.records.specs.Sheets.{inLine}
 use Rattle.walking.specs.Walking.{begin, walkOf}
@@ -31,15 +29,11 @@ by-walk s run room r z l e =
 long : (before b after run : List ℕ) → run ≡ before ++ (b ++ after) → 8 ≤ length b → 8 ≤ length run
 long before b after run q l = omega (arith, ap length q, length-append before (b ++ after), length-append b after, l)
 
-pub blank-run : (s : ℕ) (run : List ℕ) (room : ℕ) (h : BlankBehind run) → (r : Refusal) × (sheetWriting s run room ≡ Refused r) × BlankOrBefore (8 + length (inLine (h .records))) r
-unfolding sheetWriting walkOf
-blank-run s run room h = at (eqb (scaleFault s) 0) refl
-  where
-    at : (t : Bool) → eqb (scaleFault s) 0 ≡ t → (r : Refusal) × (sheetWriting s run room ≡ Refused r) × BlankOrBefore (8 + length (inLine (h .records))) r
-    at true f =
-        let m = blank-met s run 8 66 (h .records) [] (h .blank) (h .after) (begin 8 noNumber) (h .each) (h .is) (h .whole) (omega arith) (λ z. omega (arith, z)) in
-        (m .0, by-walk s run room (m .0) (eqb-true _ _ f) (long (inLine (h .records)) (h .blank) (h .after) run (h .whole) (h .is .one .least)) (m .1), m .2)
-    at false f = (refusal 0 (scaleFault s), rw f refl, inr (omega arith, some recordRefusals _ (eqb-false _ _ f) (scale-set recordRefusals (one-of (0 ∷ recordRefusals) 6 tt) s)))
+pub blank-run : (s : ℕ) (run : List ℕ) (room : ℕ) → Scale s → (h : BlankBehind run) → (r : Refusal) × (sheetWriting s run room ≡ Refused r) × BlankOrBefore 8 (h .records) r
+unfolding walkOf
+blank-run s run room k h =
+    let m = blank-met s run 8 66 (h .records) [] (h .blank) (h .after) (begin 8 noNumber) (h .each) (h .is) (h .whole) (omega arith) (λ z. omega (arith, z)) in
+    (m .0, by-walk s run room (m .0) (no-scale-fault s k) (long (inLine (h .records)) (h .blank) (h .after) run (h .whole) (h .is .one .least)) (m .1), m .2)
 
 pub fourteen-run : (s : ℕ) (run : List ℕ) (room : ℕ) → Scale s → (h : BlankNext s 64 run) → sheetWriting s run room ≡ Refused (refusal (8 + length (inLine (h .formulas))) 14)
 unfolding walkOf

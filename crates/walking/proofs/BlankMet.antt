@@ -1,6 +1,7 @@
 -- A blank record on the walk's way. Behind formula records of any numbers and values the walk is broken at it, by 14 or by what comes before that, or at an
 -- earlier record: each of these breaks the walk or lets it come to the next. Behind formulas without fault, with nothing else wrong, it is broken by 14.
 use Rattle.whole.proofs.Basics.{_≡_, _∙_, refl, sym, ap, subst, Bool, true, false, inl, inr, List, [], _∷_, _++_, append-assoc, ℕ, suc, zero, _+_, _-_, _≤_, _<_, arith, T, eqb, length, length-append, eqb-true, eqb-false, ne-eqb, le-ltb}
+use native.Mathlib.Nat.{zero-add}
 use Rattle.word.specs.Words.{Scale}
 use Rattle.table.specs.declared.Class.the-variants.{StartRecord, FormulaRecord}
 use Rattle.layout.specs.Fields.{rowFor, countOf, formulaNumber, shapeOf, loOf, hiOf, wordsOf}
@@ -37,6 +38,12 @@ module _ (s : ℕ) (b : List ℕ) (h : BlankBytes b) where
   inner-some e = subst T (sym (h .blank) ∙ not-blank s (rowFor b) (shapeOf (rowFor b) b) (loOf b) (hiOf b) (wordsOf (rowFor b) b) e) tt
 
 -- ---- behind any formula records
+
+-- what is said behind the first of some records, of all of them
+further : (at : ℕ) (c : List ℕ) (cs : List (List ℕ)) (r : Refusal) → BlankOrBefore (at + length c) cs r → BlankOrBefore at (c ∷ cs) r
+further at c cs r (inl (p, o)) = inl (omega (arith, p, length-append c (inLine cs)), o)
+further at c cs r (inr (p, o)) = inr (inr p, o)
+
 module _ (s : ℕ) (bytes : List ℕ) (from : ℕ) where
   -- the walk stands at the blank record
   blank-here : (n : ℕ) (before b after : List ℕ) (w : Walk) → BlankBytes b → bytes ≡ before ++ (b ++ after) → w .at ≡ from + length before → (w .at ≡ 0 → ⊥)
@@ -53,30 +60,26 @@ module _ (s : ℕ) (bytes : List ℕ) (from : ℕ) where
 
   -- it comes to it, or is broken before
   pub blank-met : (n : ℕ) (records : List (List ℕ)) (before b after : List ℕ) (w : Walk) → EachFormulaRecord records → BlankBytes b → bytes ≡ before ++ (inLine records ++ (b ++ after)) → w .at ≡ from + length before → (w .at ≡ 0 → ⊥)
-      → (r : Refusal) × (walkFrom n s bytes from w ≡ Broken r) × BlankOrBefore (w .at + length (inLine records)) r
+      → (r : Refusal) × (walkFrom n s bytes from w ≡ Broken r) × BlankOrBefore (w .at) records r
   unfolding walkFrom
   blank-met n [] before b after w k h q a z =
       let m = blank-here n before b after w h q a z in
       (m .0, m .1, inl (omega (arith, m .2), m .3))
-  blank-met zero (c ∷ cs) before b after w k h q a z = (refusal (w .at) 4, refl, inr (omega (arith, length-append c (inLine cs), k .0 .least), one-of recordRefusals 4 tt))
+  blank-met zero (c ∷ cs) before b after w k h q a z = (refusal (w .at) 4, refl, inr (inl refl, one-of recordRefusals 4 tt))
   blank-met (suc n) (c ∷ cs) before b after w k h q a z =
       let q′ = q ∙ ap (λ (t : List ℕ). before ++ t) (append-assoc c (inLine cs) (b ++ after)) in
       by q′ (blank-met n cs (before ++ c) b after (afterFormula c w) (k .1) h (q′ ∙ sym (append-assoc before c (inLine cs ++ (b ++ after)))) (omega (arith, a, length-append before c)) (λ x. z (omega (arith, x))))
       (eqb (faultAt s bytes from w) 0) refl
     where
-      long : length (inLine (c ∷ cs)) ≡ length c + length (inLine cs)
-      long = length-append c (inLine cs)
-
-      by : bytes ≡ before ++ (c ++ (inLine cs ++ (b ++ after))) → (r : Refusal) × (walkFrom n s bytes from (afterFormula c w) ≡ Broken r) × BlankOrBefore (w .at + length c + length (inLine cs)) r
-          → (t : Bool) → eqb (faultAt s bytes from w) 0 ≡ t → (r : Refusal) × (walkFrom (suc n) s bytes from w ≡ Broken r) × BlankOrBefore (w .at + length (inLine (c ∷ cs))) r
+      by : bytes ≡ before ++ (c ++ (inLine cs ++ (b ++ after))) → (r : Refusal) × (walkFrom n s bytes from (afterFormula c w) ≡ Broken r) × BlankOrBefore (w .at + length c) cs r
+          → (t : Bool) → eqb (faultAt s bytes from w) 0 ≡ t → (r : Refusal) × (walkFrom (suc n) s bytes from w ≡ Broken r) × BlankOrBefore (w .at) (c ∷ cs) r
       by e m true f =
-          let far : w .at + length c + length (inLine cs) ≡ w .at + length (inLine (c ∷ cs)) = omega (arith, long) in
           let p = in-place s bytes from (w .at) z in
           let none = sym (content-fault s bytes from before c _ FormulaRecord w (k .0) e a p) ∙ eqb-true _ _ f in
-          (m .0, goes-on s bytes from before c _ FormulaRecord w n (k .0) e a p none ∙ m .1, subst (λ (x : ℕ). BlankOrBefore x (m .0)) far (m .2))
+          (m .0, goes-on s bytes from before c _ FormulaRecord w n (k .0) e a p none ∙ m .1, further (w .at) c cs (m .0) (m .2))
       by e m false f =
           let none = eqb-false _ _ f in
-          (refusal (w .at) (faultAt s bytes from w), stops-at s bytes from before c _ w n (k .0 .least) e a none, inr (omega (arith, long, k .0 .least), some recordRefusals _ none (fault s bytes from w)))
+          (refusal (w .at) (faultAt s bytes from w), stops-at s bytes from before c _ w n (k .0 .least) e a none, inr (inl refl, some recordRefusals _ none (fault s bytes from w)))
 
 -- over a sheet, from its start on
 module _ (s : ℕ) (start rest : List ℕ) (asked : ℕ) (o : RecordOf StartRecord start) (h : BlankBehind rest) where
@@ -86,18 +89,18 @@ module _ (s : ℕ) (start rest : List ℕ) (asked : ℕ) (o : RecordOf StartReco
   abbrev begun : Walk
   begun = begin 0 asked
 
-  pub blank-walked : (r : Refusal) × (walkOf s bytes 0 asked ≡ Broken r) × BlankOrBefore (length start + length (inLine (h .records))) r
+  pub blank-walked : (r : Refusal) × (walkOf s bytes 0 asked ≡ Broken r) × BlankOrBefore 0 (start ∷ h .records) r
   unfolding walkOf
   blank-walked = by (eqb (faultAt s bytes 0 begun) 0) refl
     where
-      by : (t : Bool) → eqb (faultAt s bytes 0 begun) 0 ≡ t → (r : Refusal) × (walkFrom 66 s bytes 0 begun ≡ Broken r) × BlankOrBefore (length start + length (inLine (h .records))) r
+      by : (t : Bool) → eqb (faultAt s bytes 0 begun) 0 ≡ t → (r : Refusal) × (walkFrom 66 s bytes 0 begun ≡ Broken r) × BlankOrBefore 0 (start ∷ h .records) r
       by true f =
           let m = blank-met s bytes 0 65 (h .records) start (h .blank) (h .after) (afterStart start begun) (h .each) (h .is) (ap (λ (t : List ℕ). start ++ t) (h .whole)) (omega arith) (λ z. omega (arith, z, o .least)) in
           let none = sym (content-fault s bytes 0 [] start rest StartRecord begun o refl refl refl) ∙ eqb-true _ _ f in
-          (m .0, goes-on s bytes 0 [] start rest StartRecord begun 65 o refl refl refl none ∙ m .1, m .2)
+          (m .0, goes-on s bytes 0 [] start rest StartRecord begun 65 o refl refl refl none ∙ m .1, further 0 start (h .records) (m .0) (subst (λ (n : ℕ). BlankOrBefore n (h .records) (m .0)) (sym (zero-add (length start))) (m .2)))
       by false f =
           let none = eqb-false _ _ f in
-          (refusal 0 (faultAt s bytes 0 begun), stops-at s bytes 0 [] start rest begun 65 (o .least) refl refl none, inr (omega (arith, o .least), some recordRefusals _ none (fault s bytes 0 begun)))
+          (refusal 0 (faultAt s bytes 0 begun), stops-at s bytes 0 [] start rest begun 65 (o .least) refl refl none, inr (inl refl, some recordRefusals _ none (fault s bytes 0 begun)))
 
 -- ---- behind formulas without fault
 module _ (s : ℕ) (bytes : List ℕ) (from : ℕ) (before rest : List ℕ) (most : ℕ) (h : BlankNext s most rest) (q : bytes ≡ before ++ rest) (w : Walk) (a : w .at ≡ from + length before) (z : w .at ≡ 0 → ⊥) (first-number : w .next ≡ 0) (none-seen : w .seen ≡ 0) (count : w .count ≡ most) where

@@ -1,5 +1,5 @@
 -- A blank record among others, said of the bytes behind a start, or of a run: what is known of it, and where it is then refused. The binary places are s.
-use Prim.Native.Nat.{ℕ, _≤_, _<_}
+use Prim.Native.Nat.{ℕ, _+_, _≤_, _<_}
 use mathlib.Core.Path.{_≡_, refl}
 use mathlib.Core.Bool.{true}
 use mathlib.Core.List.{List, [], _∷_, _++_}
@@ -38,12 +38,17 @@ pub record BlankBehind (bytes : List ℕ) : Type 0 where
   pub each : EachFormulaRecord records
   pub is : BlankBytes blank
 
--- it is refused at its place, by 14 or by 4, 5 or 6, which come before it; or there is a refusal at an earlier place, by a record's number
+-- a place is that of one of some records, the first of which stands at `at`
+abbrev pub AtOneOf : ℕ → List (List ℕ) → ℕ → Type 0
+AtOneOf at [] place = ⊥
+AtOneOf at (b ∷ bs) place = (place ≡ at) ⊎ AtOneOf (at + length b) bs place
+
+-- behind records from `at` on it is refused at its place, by 14 or by 4, 5 or 6, which come before it; or one of these records is refused
 abbrev pub blankRefusals : List ℕ
 blankRefusals = 4 ∷ 5 ∷ 6 ∷ 14 ∷ []
 
-abbrev pub BlankOrBefore : ℕ → Refusal → Type 0
-BlankOrBefore place r = ((r .place ≡ place) × OneOf blankRefusals (r .number)) ⊎ ((r .place < place) × OneOf recordRefusals (r .number))
+abbrev pub BlankOrBefore : ℕ → List (List ℕ) → Refusal → Type 0
+BlankOrBefore at records r = ((r .place ≡ at + length (inLine records)) × OneOf blankRefusals (r .number)) ⊎ (AtOneOf at records (r .place) × OneOf recordRefusals (r .number))
 
 -- ---- behind formulas without fault, of which there may be one more, and with a number that may follow them; nothing else is wrong with its
 -- interval, its mode and its words. It is then refused by 14 at its place
@@ -77,13 +82,17 @@ unfolding rows firstRow rowOf number2 number4 words firstCount fieldOf shapeOf o
 first-of-all =
     record { formulas = []; blank = nought; after = 7 ∷ []; whole = refl; room = lit≤ tt; each = tt; rising = tt; number = lit≤ tt; is = nought-is-blank; own = refl; words = refl }
 
--- at 28: 14 there, 7 before it, and 7 there not
-there-or-before : BlankOrBefore 28 (refusal 28 14) × BlankOrBefore 28 (refusal 8 7)
-there-or-before = (inl (refl, inr (inr (inr (inl refl)))), inr (lit≤ tt, inr (inr (inr (inr (inr (inr (inr (inl refl)))))))))
+-- behind one of 20 bytes at 8: 14 at 28, or 7 at 8; but not 7 at 28, nor 7 at 9, where no record stands
+there-or-before : BlankOrBefore 8 (nought ∷ []) (refusal 28 14) × BlankOrBefore 8 (nought ∷ []) (refusal 8 7)
+there-or-before = (inl (refl, inr (inr (inr (inl refl)))), inr (inl refl, inr (inr (inr (inr (inr (inr (inr (inl refl)))))))))
 
-not-seven-there : BlankOrBefore 28 (refusal 28 7) → ⊥
+not-seven-there : BlankOrBefore 8 (nought ∷ []) (refusal 28 7) → ⊥
 not-seven-there (inl (e, inl f)) = omega (arith, f)
 not-seven-there (inl (e, inr (inl f))) = omega (arith, f)
 not-seven-there (inl (e, inr (inr (inl f)))) = omega (arith, f)
 not-seven-there (inl (e, inr (inr (inr (inl f))))) = omega (arith, f)
-not-seven-there (inr (l, h)) = omega (arith, l)
+not-seven-there (inr (inl e, h)) = omega (arith, e)
+
+not-in-a-record : BlankOrBefore 8 (nought ∷ []) (refusal 9 7) → ⊥
+not-in-a-record (inl (e, h)) = omega (arith, e)
+not-in-a-record (inr (inl e, h)) = omega (arith, e)
