@@ -16,9 +16,9 @@
 
    Answers. Each result begins with `refused`, 0 or the number of the refusal, and `place`. When refused, every field after
    these two is 0 (a double is plus zero) and no byte of a lent buffer has changed; when not, `refused` and `place` are 0.
-   Refusals 1 to 8 and 14, which comes directly after 6, give the first byte of their record as the place, and 9 the first byte too
-   many: these are the sheet's own, and come before any other. The others give place 0, and so does the record writer always. In the
-   sheet writer places count from the new sheet's first byte, so the run begins at 8. */
+   Refusals 1 to 8 and 14 give the first byte of their record as the place, and 9 the first byte too many. These are the sheet's own,
+   and come before any other; among them 14 comes directly after 6. The others give place 0, and so does the record writer always. In
+   the sheet writer places count from the new sheet's first byte, so the run begins at 8. */
 #ifndef VALVEPIGEON_H
 #define VALVEPIGEON_H
 
@@ -70,8 +70,8 @@ extern "C" {
 #define VP_NO_SUCH_FORMULA 11     /* no formula has that number */
 #define VP_BUFFER_TOO_SHORT 12    /* the output buffer is too short */
 #define VP_NOT_FINITE 13          /* the double is infinite or not a number */
-#define VP_BLANK_FORMULA 14       /* the formula is blank and could only answer 0: all its coefficients are 0, or all those of its
-                                     numerator, or a fraction's b0 and a1 */
+#define VP_BLANK_FORMULA 14       /* the formula is blank and could only answer 0: its coefficients, a rational's numerator, or a
+                                     fraction's b0 and a1 are all 0 */
 #define VP_NO_SINE 15             /* the formula is not of the kind odd, or its interval does not hold 0 to one */
 
 /* The kinds of formula records, as `kind` has them. */

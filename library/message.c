@@ -36,10 +36,10 @@ static const char *const messages[] = {
                             "Lend more: a record takes at most 120 bytes, a sheet 16 more than its run.",
     [VP_NOT_FINITE] = "the double is infinite or not a number. "
                       "Look where it comes from.",
-    [VP_BLANK_FORMULA] = "the formula is blank and could only answer 0: all its coefficients are 0, or all those of its numerator, or "
-                         "a fraction's b0 and a1. "
-                         "Zeros stand in the place of its coefficients, as when a disk is full or part of a file is lost: load no "
-                         "board from this file, and fetch it again; in a formula of your own, type its coefficients.",
+    [VP_BLANK_FORMULA] = "the formula is blank and could only answer 0: its coefficients, a rational's numerator, or a fraction's b0 and "
+                         "a1 are all 0. "
+                         "Load no board from this file: zeros stand where coefficients should be, as when a disk fills up or part of a "
+                         "file is lost. Fetch it again; in a formula of your own, give coefficients that are not all 0.",
     [VP_NO_SINE] = "the formula is not of the kind odd, or its interval does not hold 0 to one. "
                    "Ask an odd formula whose interval holds the words 0 to 16777216; a listing of the sheet shows both.",
 };

@@ -12,8 +12,8 @@ BLANK = 14
 WHY = {  # as the library has it; tests/words.sh holds the two together
     7: "the word range may be left on the way to an answer",
     8: "the divisor may reach 0",
-    BLANK: "the formula is blank and could only answer 0: all its coefficients "
-           "are 0, or all those of its numerator, or a fraction's b0 and a1",
+    BLANK: "the formula is blank and could only answer 0: its coefficients, a "
+           "rational's numerator, or a fraction's b0 and a1 are all 0",
 }
 PLACES = 8  # decimal places that tell one word from the next
 

@@ -248,7 +248,7 @@ static size_t from_hex(uint8_t *to, const char *text) {
 #define FIFTEEN_ZEROS FOUR_ZEROS FOUR_ZEROS FOUR_ZEROS "00000000 00000000 00000000 "
 /* from 0 to 12, where S is no word */
 #define WIDE(length, kind, rest) START length "000000 " kind "00 0100 00000000 0000000c " rest END
-/* a run of a root, with the number 1, and a blank record of that number; and a sheet of it that counts so many */
+/* a run of a root, number 1, and a blank polynomial of the number given; and a sheet of a run, with a count */
 #define RUN(number) "10000000 1300 0100 00000000 00000001 14000000 1000 " number "00 000000ff 00000001 00000000 "
 #define SHEET_OF(count, run) "08000000 0100 " count "00 " run "08000000 ffff " count "00"
 /* the record writer's fields on [-1, 1], with no room: counts and mode, two words, thirty zeros */

@@ -173,7 +173,7 @@ gives 2 '' "a formula's number and angles; $see cosine" cosine odd.sheet
 printf '\10\0\0\0\1\0\1\0\30\0\0\0\24\0\5\0\0\0\0\377\0\0\0\1\0\0\0\0\0\0\0\0\10\0\0\0\377\377\1\0' >blank.sheet
 gives 1 $'refused 14 at 8\n' 'blank.sheet: refused 14 at 8: the formula is blank and could only answer 0' list blank.sheet
 wrong 'check of a blank formula' 1 'blank.sheet: refused 14 at 8: the formula is blank' "$command" check blank.sheet
-wrong 'what to do about a blank formula' 1 'load no board from this file, and fetch it again' "$command" check blank.sheet
+wrong 'what to do about a blank formula' 1 'Load no board from this file' "$command" check blank.sheet
 gives 1 $'refused 14 at 8\n' 'blank.sheet, formula 5: refused 14 at 8: the formula is blank' ask blank.sheet 5 0 1
 gives 1 $'refused 14 at 8\n' 'refused 14 at 8: ' ask blank.sheet 4
 gives 1 $'refused 14 at 8\n' 'blank.sheet, formula 5: refused 14 at 8: the formula is blank' sine blank.sheet 5 0 1
@@ -229,7 +229,7 @@ for input in "$room"/cases/*.in; do
     case $(head -n 1 "${input%.in}.out") in
         'formulas '*) status=0 text= ;;
         'refused '[3-8]' '*) status=1 text='its bytes are damaged' ;;
-        'refused 14 '*) status=1 text='Zeros stand in the place of its coefficients' ;;
+        'refused 14 '*) status=1 text='Load no board from this file: zeros stand where coefficients should be' ;;
         'refused '*) status=1 text='refused' ;;
         *) status=1 text='too long' ;;
     esac

@@ -145,7 +145,8 @@ def beside(answer, formula_with):
 OPERATIONS = {
     "product": (number.product, lambda answer, a, b: at(
         b, answer, Formula(POLYNOMIAL, 1, b, b, 2, 0, 0, (0, a)))),
-    # a numerator a + x steps, so that it is not blank where a is 0
+    # the numerator is a and a step by x, which adds nothing at 0, so that it is
+    # not blank where a is 0; the product's a may not be 0
     "quotient": (number.quotient, lambda answer, a, d: at(
         0, answer, Formula(RATIONAL, 1, 0, 0, 2, 1, 0, (a, 1, d)))),
     "root": (number.root, lambda answer, x: at(

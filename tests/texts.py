@@ -246,7 +246,7 @@ REFUSED = [
 
 # Refusal 14: kind, numbers, interval, and the line that is told, which is that of
 # the coefficients or of the numerator. Half a step is 1/33554432. It comes before
-# 7, as for 12 times 12, and before 8, as for a divisor of 0 and of 0 + x/1.
+# 7, as for 12 times 12, and before 8, as for a divisor of 0 and of 0 + x²/1.
 BLANK = [
     ("polynomial", ["coefficients: 0"], "[-1, 1]", 5),
     ("polynomial", ["coefficients: 0, -0.0,", "  0/7"], "[0, 0]", 5),
