@@ -142,11 +142,17 @@ def beside(answer, formula_with):
     return [(asked(M - n), "1"), (asked(M - n + 1), "refused 7 at 8")]
 
 
+def product_at(answer, a, b):
+    """The polynomial 0, a at b; a coefficient 0 would leave it blank, so that a
+    factor 0 is the argument."""
+    a, b = (a, b) if a else (b, a)
+    return at(b, answer, Formula(POLYNOMIAL, 1, b, b, 2, 0, 0, (0, a)))
+
+
 OPERATIONS = {
-    "product": (number.product, lambda answer, a, b: at(
-        b, answer, Formula(POLYNOMIAL, 1, b, b, 2, 0, 0, (0, a)))),
+    "product": (number.product, product_at),
     # the numerator is a and a step by x, which adds nothing at 0, so that it is
-    # not blank where a is 0; the product's a may not be 0
+    # not blank where a is 0
     "quotient": (number.quotient, lambda answer, a, d: at(
         0, answer, Formula(RATIONAL, 1, 0, 0, 2, 1, 0, (a, 1, d)))),
     "root": (number.root, lambda answer, x: at(

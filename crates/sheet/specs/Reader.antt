@@ -201,11 +201,11 @@ one-blank : (formulaCount 24 oneBlank ≡ Refused (refusal 8 14)) × (formulaPla
 unfolding formulaCount formulaPlace walkOf walkFrom faultAt frameFault bytesAt recordFault lengthFault sizeFault countFault outside startFault scaleFault orderFault valueFault ownFault intervalFault wordsFault allZero number2 number4 words rows firstRow rowOf firstCount fieldOf shapeOf piecesBy
 one-blank = (refl, refl, refl)
 
--- a blank formula does not fit, and neither is its record among such as none of them is blank
+-- a blank formula does not fit; and of a root and a blank record it is not so that none is blank
 blank-does-not-fit : Fit 24 (formulaAt oneBlank 8) → ⊥
 unfolding number2 number4 words rows firstRow rowOf firstCount fieldOf shapeOf padded formulaOf bytesAt allZero
 blank-does-not-fit f = subst T (f .not-blank) tt
 
-nor-its-record : NoneBlank (bytesAt oneBlank 8 ∷ []) → ⊥
+root-and-blank : NoneBlank (bytesAt (oneRoot 5) 8 ∷ bytesAt oneBlank 8 ∷ []) → ⊥
 unfolding number2 number4 words rows firstRow rowOf firstCount fieldOf shapeOf bytesAt allZero
-nor-its-record h = subst T (h .0) tt
+root-and-blank h = subst T (h .1 .0) tt
