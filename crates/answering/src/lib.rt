@@ -1,4 +1,6 @@
 // One formula at one argument: its answer inside its interval, or 10 outside it.
+#![tactic(auto)]
+
 ghost use Rattle.std.specs.Prelude.{◌≡◌};
 ghost use Rattle.word.specs.Words.{Scale};
 ghost use Rattle.formula.specs.Formula.{worked_of, Answerable};

@@ -1,4 +1,6 @@
 // The board: a whole sheet, a number and an argument in; an answer or a numbered refusal out.
+#![tactic(auto)]
+
 ghost use Rattle.std.specs.Prelude.{◌≡◌};
 ghost use Rattle.board.specs.Board.{evaluated};
 

@@ -1,4 +1,6 @@
 // Each answer of the library as the struct that C is given, and the fields of a formula as C gives them.
+#![tactic(auto)]
+
 pub mod answers;
 pub mod conversions;
 pub mod fields;

@@ -1,5 +1,7 @@
 // Doubles at the desk: a whole sheet, a number and a double in; a double with its steps and its mark, or a numbered refusal, out. A
 // formula's interval as two doubles.
+#![tactic(auto)]
+
 ghost use Rattle.std.specs.Prelude.{◌≡◌};
 ghost use Rattle.word.specs.Words.{Scale};
 ghost use Rattle.records.specs.Sheets.{FormulaBytes};

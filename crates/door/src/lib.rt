@@ -1,4 +1,6 @@
 // The door for doubles, at s binary places: a double is taken as a word, and a word is shown as a double.
+#![tactic(auto)]
+
 ghost use Rattle.std.specs.Prelude.{◌≡◌};
 ghost use Rattle.word.specs.Words.{Scale};
 ghost use Rattle.door.specs.Exact.{Exactly};

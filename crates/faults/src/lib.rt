@@ -1,5 +1,7 @@
 // A refusal, and the checks of a record's parts: here its frame and the binary places, in `framing` a start and an end, in `parts`
 // what a formula record is made of. Each function gives the paper's number, or 0 for none.
+#![tactic(auto)]
+
 ghost use Rattle.std.specs.Prelude.{◌≡◌, ◌≤◌, length};
 ghost use Rattle.faults.specs.Faults.{frame_fault, scale_fault};
 

@@ -1,4 +1,6 @@
 // A formula of any kind: its shape, and what it answers over the words that stand in bytes.
+#![tactic(auto)]
+
 ghost use Rattle.std.specs.Prelude.{◌≡◌, ◌<◌};
 ghost use Rattle.word.specs.Exact.{whole_at};
 ghost use Rattle.root.specs.Root.{Rootable, root_word, exact_root};

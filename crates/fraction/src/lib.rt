@@ -1,4 +1,6 @@
 // Continued fractions b0 + a1·v1/(b1 + a2·v2/(b2 + ..)) over words that stand in bytes, from `at` on: b0, a1, b1, a2, ..
+#![tactic(auto)]
+
 ghost use Rattle.std.specs.Prelude.{◌≡◌, true, cond, ◌&&◌, ◌+◌, ◌*◌, ◌^◌, ◌<◌};
 ghost use Rattle.word.specs.Words.{Word, Scale, product_of};
 ghost use Rattle.word.specs.Exact.{exact_product, whole_at};

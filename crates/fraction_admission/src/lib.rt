@@ -1,4 +1,6 @@
 // Admission of continued fractions over words that stand in bytes, from `at` on: b0, a1, b1, a2, ..
+#![tactic(auto)]
+
 ghost use Rattle.std.specs.Prelude.{◌≡◌, ◌+◌, ◌^◌, ◌≤◌};
 ghost use Rattle.stored.specs.Words.{words, Stretch};
 ghost use Rattle.admission.specs.Admission.{Judged};

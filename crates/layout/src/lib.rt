@@ -1,5 +1,7 @@
 // The layout of a sheet's records: the fields of one record, read from the record's own bytes by the row of its kind; a record cut
 // out of a sheet.
+#![tactic(auto)]
+
 ghost use Rattle.std.specs.Prelude.{◌≡◌, [], ◌+◌, ◌*◌, ◌≤◌, length};
 ghost use Rattle.stored.specs.Words.{words, Stretch};
 ghost use Rattle.table.specs.Rule.{Ruled};

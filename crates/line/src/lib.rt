@@ -1,4 +1,6 @@
 // One line of a listing, put into a buffer: a formula's, the count's or a refusal's.
+#![tactic(auto)]
+
 ghost use Rattle.std.specs.Prelude.{◌+◌, ◌≤◌, length};
 ghost use Rattle.layout.specs.Fields.{row_for, formula_of};
 ghost use Rattle.text.specs.Text.{Puts};

@@ -1,4 +1,6 @@
 // The listing: the formula count and a line for each formula, or why there is none.
+#![tactic(auto)]
+
 ghost use Rattle.std.specs.Prelude.{◌≡◌, ◌++◌, ◌+◌, ◌*◌, ◌≤◌, length, drop};
 ghost use Rattle.stored.specs.Numbers.{number4};
 ghost use Rattle.sheet.specs.Reader.{formula_count};

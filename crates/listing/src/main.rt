@@ -1,4 +1,5 @@
 // Reads a sheet from standard input and writes its listing to standard output.
+#![tactic(auto)]
 
 fn main() {
     // One byte more than the longest sheet, to see what is too long.

@@ -1,5 +1,7 @@
 // Multiplication: of 16 by 16 bits, as the controller has it, and of 32 by 32 bits, made of that. Besides, only places are
 // multiplied, by the size of what is counted, which is a shift.
+#![tactic(auto)]
+
 ghost use Rattle.std.specs.Prelude.{◌≡◌, ◌+◌, ◌*◌, ◌/◌, ◌%◌, ◌^◌, ◌<◌};
 ghost use Rattle.multiply.specs.Halves.{OfHalves, halves_of, middle_and_low};
 

@@ -1,5 +1,7 @@
 // The kinds `even` and `odd`, over words that stand in bytes: a polynomial at the square of x, and x times that. The m coefficients stand
 // from `at` on, lowest power first; the walk over them, and over their bounds, is the polynomial's.
+#![tactic(auto)]
+
 ghost use Rattle.std.specs.Prelude.{◌≡◌, cond, ◌^◌, ◌≤◌, ltb};
 ghost use Rattle.word.specs.Words.{Scale};
 ghost use Rattle.word.specs.Exact.{whole_at};

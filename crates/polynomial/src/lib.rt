@@ -1,5 +1,7 @@
 // Polynomials over words that stand in bytes: the answer, and the bounds that admission needs. The m coefficients stand from `at` on,
 // lowest power first.
+#![tactic(auto)]
+
 ghost use Rattle.std.specs.Prelude.{◌≡◌};
 ghost use Rattle.word.specs.Words.{Scale};
 ghost use Rattle.word.specs.Exact.{whole_at};

@@ -1,4 +1,6 @@
 // A record's bytes, put into a buffer: a formula's, without the fields that its kind has not, and those of a start and of an end.
+#![tactic(auto)]
+
 ghost use Rattle.std.specs.Prelude.{◌≡◌, ◌+◌, ◌*◌, ◌≤◌, length, take};
 ghost use Rattle.std.proofs.lemmas.List.Edits.{sets};
 ghost use Rattle.table.specs.Table.{length_by};

@@ -1,4 +1,6 @@
 // Rational formulas over words that stand in bytes: a numerator of p coefficients from `at` on, and behind it a divisor of q.
+#![tactic(auto)]
+
 ghost use Rattle.std.specs.Prelude.{◌≡◌, ◌+◌, ◌*◌, ◌<◌, ◌≤◌};
 ghost use Rattle.word.specs.Words.{Scale, largest};
 ghost use Rattle.word.specs.Exact.{whole_at};

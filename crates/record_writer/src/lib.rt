@@ -1,4 +1,6 @@
 // The record writer: 3; 6 for the binary places; 2; 6; 14; 7 or 8; then 12, all at place 0. Only then does it touch the buffer.
+#![tactic(auto)]
+
 ghost use Rattle.std.specs.Prelude.{◌≡◌, ◌≤◌, length};
 ghost use Rattle.word.specs.Words.{Scale};
 ghost use Rattle.table.specs.Table.{row_of};

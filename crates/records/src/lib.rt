@@ -1,6 +1,8 @@
 // The checks of a formula record in the paper's order, over the words where they stand: the paper's number, or 0 for none. One
 // function for each kind, with its row by a constant code: the compiler then has the row's numbers as constants.
 // What reader and writers share: a caller of theirs needs none of it.
+#![tactic(auto)]
+
 ghost use Rattle.std.specs.Prelude.{◌≡◌, ◌≤◌, ◌-◌, ◌/◌, length};
 ghost use Rattle.word.specs.Words.{Scale};
 ghost use Rattle.stored.specs.Words.{words, Stretch};

@@ -1,4 +1,6 @@
 // The root of a word at s binary places, by Heron's rule, the number of its steps, and whether it is exact.
+#![tactic(auto)]
+
 ghost use Rattle.std.specs.Prelude.{◌≡◌, ◌<◌, ◌^◌};
 ghost use Rattle.root.specs.Root.{Rootable, exact_root};
 ghost use Rattle.root.specs.Heron.{start, next, rooted, heron_of, rooted_by};

@@ -1,3 +1,5 @@
 // The reader of sheets, for everyone.
+#![tactic(auto)]
+
 pub mod answers;
 pub mod reader;

@@ -1,4 +1,6 @@
 // The sheet writer: one pass over the run to check it, by the reader's own walk, and one to copy it.
+#![tactic(auto)]
+
 ghost use Rattle.std.specs.Prelude.{◌≡◌, ◌+◌, ◌≤◌, length};
 ghost use Rattle.std.proofs.lemmas.List.Edits.{sets};
 ghost use Rattle.word.specs.Words.{Scale};

@@ -1,4 +1,6 @@
 // Numbers and bytes in a slice of bytes, a number with the lowest byte first: read at a place, and stored at one.
+#![tactic(auto)]
+
 ghost use Rattle.std.specs.Prelude.{◌≡◌, ◌+◌, ◌<◌, ◌≤◌, length};
 ghost use Rattle.std.proofs.lemmas.List.Edits.{sets};
 ghost use Rattle.std.specs.Int.{w32};

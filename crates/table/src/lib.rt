@@ -1,4 +1,6 @@
 // The table of record kinds, a row for each, as specs/Table.antt has it.
+#![tactic(auto)]
+
 ghost use Rattle.std.specs.Prelude.{◌≡◌, map, ◌≤◌};
 ghost use Rattle.table.specs.Table.{rows, row_of, pieces_by, length_by};
 ghost use Rattle.table.specs.Codes.{code_for};

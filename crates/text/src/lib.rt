@@ -1,4 +1,6 @@
 // Text in ASCII, put into a buffer from a place on. Each function answers the place behind it.
+#![tactic(auto)]
+
 ghost use Rattle.std.specs.Prelude.{◌+◌, ◌≤◌, length};
 ghost use Rattle.text.specs.Text.{decimal, signed, Puts};
 

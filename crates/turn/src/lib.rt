@@ -1,4 +1,6 @@
 // Sine and cosine by an odd formula: a whole sheet, a number and an angle in; an answer or a numbered refusal out.
+#![tactic(auto)]
+
 ghost use Rattle.std.specs.Prelude.{◌≡◌};
 ghost use Rattle.word.specs.Words.{Word, Scale};
 ghost use Rattle.records.specs.Sheets.{FormulaBytes};

@@ -1,4 +1,6 @@
 // The library as C calls it: include/valvepigeon.h. A slice is a pointer and a length there.
+#![tactic(auto)]
+
 ghost use Rattle.std.specs.Prelude.{◌≡◌, length};
 ghost use Rattle.sheet.specs.Reader.{formula_count, formula_read};
 ghost use Rattle.board.specs.Board.{evaluated};

@@ -1,4 +1,6 @@
 // The walk over a sheet or a run, record after record, as specs/Walking.antt has it.
+#![tactic(auto)]
+
 ghost use Rattle.std.specs.Prelude.{◌≡◌, ◌+◌, ◌<◌, ◌≤◌, length};
 ghost use Rattle.word.specs.Words.{Scale};
 ghost use Rattle.faults.specs.Guard.{refusal};

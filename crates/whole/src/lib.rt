@@ -1,1 +1,2 @@
 // Laws of the whole numbers, in proofs/. No code.
+#![tactic(auto)]

@@ -1,4 +1,6 @@
 // The number on the board: products and quotients, whether they rounded, and their bounds, of words at s binary places.
+#![tactic(auto)]
+
 ghost use Rattle.std.specs.Prelude.{◌≡◌, ◌*◌, ◌<◌, ◌≤◌, ◌^◌, nat_abs, pos};
 ghost use Rattle.word.specs.Rounded.{rounded};
 ghost use Rattle.word.specs.Words.{Scale, Factors, Division, unit, with_sign, product_of, quotient_of, bound_product, bound_quotient};
