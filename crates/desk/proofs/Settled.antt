@@ -1,5 +1,5 @@
 -- Promise: each public function of the desk asks nothing of its caller, and settles its result: two results that satisfy its contract are equal.
-use Rattle.whole.proofs.Basics.{◌≡◌, ◌∙◌, sym, ap, ℕ, now}
+use Rattle.whole.proofs.Basics.{◌≡◌, ◌∙◌, sym, ap, ℕ}
 use Rattle.whole.proofs.Settled.{AsksNothing, Settled}
 use Rattle.formula.specs.declared.Formula.{Formula}
 use Rattle.door.proofs.Determined.{exactly_unique, ends_unique}
@@ -33,7 +33,7 @@ pub evaluate_double_asks_nothing : AsksNothing double-kinds.ps double-reads.Aske
 evaluate_double_asks_nothing κs a = tt
 
 pub evaluate_double_settled : Settled double-kinds.ps double-kinds.r double-reads.Learnt
-evaluate_double_settled κs a x y s t p q = shown_once a.1.1.1.0 (evaluated_double a.1.1.1.0 (now a.0) a.1.0 a.1.1.0) x y p q
+evaluate_double_settled κs a x y s t p q = shown_once a.1.1.1.0 (evaluated_double a.1.1.1.0 a.0.now a.1.0 a.1.1.0) x y p q
 
 interval_once : (s : ℕ) (a : Found) (f : Formula) (x y : Interval) → IntervalBy s a f x → IntervalBy s a f y → x ≡ y
 interval_once s Given f (Between x) (Between y) p q = ap Between (ends_unique s f.lo f.hi x y p.0 p.1 q.0 q.1)
@@ -47,4 +47,4 @@ pub interval_asks_nothing : AsksNothing interval-kinds.ps interval-reads.Asked
 interval_asks_nothing κs a = tt
 
 pub interval_settled : Settled interval-kinds.ps interval-kinds.r interval-reads.Learnt
-interval_settled κs a x y s t p q = (let r = formula_read a.1.1.0 (now a.0) a.1.0 in interval_once a.1.1.0 r.found r.formula x y p q)
+interval_settled κs a x y s t p q = (let r = formula_read a.1.1.0 a.0.now a.1.0 in interval_once a.1.1.0 r.found r.formula x y p q)

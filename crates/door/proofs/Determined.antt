@@ -3,7 +3,7 @@
 use Rattle.whole.proofs.Basics.{◌≡◌, ◌∙◌, refl, sym, ap, ap₂, Bool, cond, ℕ, ◌+◌, ◌-◌, ◌*◌, ◌/◌, ◌^◌, ◌<◌, T, ℤ, nat_abs}
 use native.Mathlib.Nat.{mul_right_comm, eq_of_mul-eq-mul_right}
 use lib.Pow.{pow_pos}
-use lib.Ieee.{Float, fin, Format, binary64, prec, low, up, down, size, hid, top, fits, to_bits, of_bits}
+use lib.Ieee.{Float, nan, inf, fin, Format, binary64, prec, low, up, down, size, hid, top, fits, to_bits, of_bits}
 use lib.Ieee.Fits.{down_pos}
 use lib.Ieee.Bits.{of_bits-to_bits}
 use lib.Ieee.Exact.{HasValue}
@@ -38,6 +38,10 @@ same_bits f s t u m n e g a c C v w =
     ∙ sym (to_bits_is f u n g)
 
 value_unique : (f : Format) (x y : Float) (s : Bool) (a c : ℕ) → 0 < c → T (fits f x) → T (fits f y) → HasValue x s a c → HasValue y s a c → x ≡ y
+value_unique f nan y s a c C p q v w = elim v [ ]
+value_unique f (inf _) y s a c C p q v w = elim v [ ]
+value_unique f (fin t m e) nan s a c C p q v w = elim w [ ]
+value_unique f (fin t m e) (inf _) s a c C p q v w = elim w [ ]
 value_unique f (fin t m e) (fin u n g) s a c C p q v w =
     sym (of_bits-to_bits f (fin t m e) p) ∙ ap (of_bits f) (same_bits f s t u m n e g a c C v w) ∙ of_bits-to_bits f (fin u n g) q
 

@@ -34,10 +34,14 @@ taken_exact_lem s (fin t m e) w h =
     ap (λ (z : ℤ). z *ℤ pos (down e)) (sym k.0) ∙ rounded_divides (numerator s t m e) (down e) (down_pos e) k.1
 
 pub exact_taken : (s : ℕ) (x : Float) (w : ℤ) → ValueIs s x w → Word w → taken_of s x ≡ taken.Word w true
+exact_taken s nan w h small = elim h [ ]
+exact_taken s (inf _) w h small = elim h [ ]
 exact_taken s (fin t m e) w h small =
     taken_fin s t m e
     ∙ ap₂ as_word (ap (λ (z : ℤ). rounded z (down e)) (sym h) ∙ rounded_exact w (down e) (down_pos e)) (value_divides s t m e w h)
     ∙ as_word_yes w true small
 
 pub taken_rounded : (s : ℕ) (x : Float) (w : ℤ) → taken_of s x ≡ taken.Word w false → (z : ℤ) → ValueIs s x z → ⊥
+taken_rounded s nan w h z v = elim v [ ]
+taken_rounded s (inf _) w h z v = elim v [ ]
 taken_rounded s (fin t m e) w h z v = true≢false (sym (value_divides s t m e z v) ∙ (word_and_mark s t m e w false h).1)

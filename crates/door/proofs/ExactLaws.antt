@@ -40,6 +40,10 @@ not_zero (suc n) p e P h = omega arith
 
 quotient_is : (f : Format) (x y : Float) (s : Bool) (a p : ℕ) → 0 < p → HasValue x s a 1 → HasValue y false p 1 → div f x y ≡ round f s a p
 unfolding div
+quotient_is f nan y s a p P v w = elim v [ ]
+quotient_is f (inf _) y s a p P v w = elim v [ ]
+quotient_is f (fin t m e) nan s a p P v w = elim w [ ]
+quotient_is f (fin t m e) (inf _) s a p P v w = elim w [ ]
 quotient_is f (fin t m e) (fin u n g) s a p P v w =
     let above = not_zero n p g P w.1 in
     ap (λ (b : Bool). cond b (cond (eqb m 0) nan (inf (unlike t u))) (round f (unlike t u) (m * up e * down g) (n * up g * down e))) (ne_eqb n 0 (λ h. omega arith))

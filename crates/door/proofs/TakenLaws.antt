@@ -39,6 +39,8 @@ ratio_same m d k c D C e = ap₂ as_word (rounded_same m d k c D C e) (divides_s
 
 -- ---- a double whose sign is t and whose size is a / c
 pub taken_value : (s : ℕ) (x : Float) (t : Bool) (a c : ℕ) → 0 < c → HasValue x t a c → taken_of s x ≡ from_ratio (with_sign t (pos (a * unit s))) c
+taken_value s nan t a c C h = elim h [ ]
+taken_value s (inf _) t a c C h = elim h [ ]
 taken_value s (fin u m e) t a c C h =
     taken_fin s u m e
     ∙ ap (λ (b : Bool). from_ratio (numerator s b m e) (down e)) h.0

@@ -25,7 +25,7 @@ module _ (s n q mode : ℕ) (lo hi : ℤ) (ws : List ℤ) (x : ℤ) where
   polynomial_distance sound = distance_written_out s terms n x (length-take-le (suc n) ws sound.room)
 
   pub even_distance : Sound (of_degree Even n q mode) lo hi ws → 2 * nat_abs (answer_of s (of_degree Even n q mode) ws x *ℤ pos (2 ^ (s * n)) -ℤ exact_sum s terms n (square_of s x)) ≤ spread_sum s n (square_of s x)
-  even_distance sound = odd_even.even-distance s terms n x (length-take-le (suc n) ws sound.room)
+  even_distance sound = odd_even.even_distance s terms n x (length-take-le (suc n) ws sound.room)
 
   pub odd_distance : Sound (of_degree Odd n q mode) lo hi ws → 2 * nat_abs (answer_of s (of_degree Odd n q mode) ws x *ℤ pos (2 ^ (s * suc n)) -ℤ odd_exact_sum s terms n x) ≤ odd_spread_sum s n x
-  odd_distance sound = odd_even.odd-distance s terms n x (length-take-le (suc n) ws sound.room)
+  odd_distance sound = odd_even.odd_distance s terms n x (length-take-le (suc n) ws sound.room)

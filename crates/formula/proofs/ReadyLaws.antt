@@ -55,7 +55,7 @@ module _ (s : ℕ) (h : Shape) (ws : List ℤ) (x : ℤ) (a : Answerable s h ws 
   root_ready e = (a.scale, x_word s h ws x a, ≤ℤ_trans (subst (λ (j : Kind). RootInterval j a.lo) e a.sound.rooted) a.above)
 
   pub odd_ready : h.kind ≡ Odd → OddReady s (take h.p ws) x
-  odd_ready e = odd_even.odd-ready s (most_of a.lo a.hi) (take h.p ws) x (x_most s h ws x a) a.scale (x_word s h ws x a) (some Odd refl (counts_at h a.lo a.hi ws a.sound Odd e).0 e) (admitted_at Odd e)
+  odd_ready e = odd_even.odd_ready s (most_of a.lo a.hi) (take h.p ws) x (x_most s h ws x a) a.scale (x_word s h ws x a) (some Odd refl (counts_at h a.lo a.hi ws a.sound Odd e).0 e) (admitted_at Odd e)
 
   pub even_ready : h.kind ≡ Even → EvenReady s (take h.p ws) x
-  even_ready e = odd_even.even-ready s (most_of a.lo a.hi) (take h.p ws) x (x_most s h ws x a) a.scale (x_word s h ws x a) (some Even refl (counts_at h a.lo a.hi ws a.sound Even e).0 e) (admitted_at Even e)
+  even_ready e = odd_even.even_ready s (most_of a.lo a.hi) (take h.p ws) x (x_most s h ws x a) a.scale (x_word s h ws x a) (some Even refl (counts_at h a.lo a.hi ws a.sound Even e).0 e) (admitted_at Even e)

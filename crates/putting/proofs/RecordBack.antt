@@ -77,7 +77,7 @@ field_back f n a t s z h = at (eqb f.at 0) refl
 -- ---- the words
 
 words_back : (a t : List ℕ) (ws : List ℤ) (k : ℕ) → ((i : ℕ) → SFits w32 (get_or ws i (pos 0))) → k ≡ length a → words (a ++ (word_bytes ws ++ t)) k (length ws) ≡ ws
-unfolding words word_bytes
+unfolding words word_bytes bytes4
 words_back a t [] k f e = refl
 words_back a t (z ∷ zs) k f e =
     let w = bytes4 (pattern z) in

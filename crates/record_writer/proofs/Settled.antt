@@ -1,6 +1,6 @@
 -- Promise: the record writer asks nothing of its caller, and settles its result and its buffer: two results, and two later contents of
 -- the buffer, that satisfy its contract are equal.
-use Rattle.whole.proofs.Basics.{◌∙◌, sym, ap, List, ℕ, now}
+use Rattle.whole.proofs.Basics.{◌∙◌, sym, ap, List, ℕ}
 use Rattle.whole.proofs.Settled.{AsksNothing, SettledBy, Settled}
 use Rattle.record_writer.specs.Answers.{buffer_after}
 use Rattle.record_writer.specs.RecordWriter.{bytes_of}
@@ -22,6 +22,6 @@ write_record_asks_nothing κs a = tt
 pub write_record_settled : Settled record-kinds.ps record-kinds.r record-reads.Learnt
 write_record_settled κs a x y s t p q = p.0 ∙ sym q.0
 
-pub write_record_buffer_settled : SettledBy record-kinds.ps record-kinds.r record-reads.Learnt (List ℕ) (λ κs r s. now s.1.0)
+pub write_record_buffer_settled : SettledBy record-kinds.ps record-kinds.r record-reads.Learnt (List ℕ) (λ κs r s. s.1.0.now)
 write_record_buffer_settled κs a x y s t p q =
-    p.1 ∙ ap (λ (w : Writing). buffer_after w (bytes_of a.0) (now a.1.0)) (p.0 ∙ sym q.0) ∙ sym q.1
+    p.1 ∙ ap (λ (w : Writing). buffer_after w (bytes_of a.0) a.1.0.now) (p.0 ∙ sym q.0) ∙ sym q.1

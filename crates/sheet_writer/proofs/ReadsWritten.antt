@@ -102,22 +102,26 @@ rising s k (f ∷ fs) w o =
     (subst (λ (x : ℕ). k ≤ x) e o.0, subst (λ (x : ℕ). Rising (x + 1) (map bytes_of fs)) e (rising s (f.number + 1) fs w.1 o.1))
 
 in_records : (s : ℕ) (f : Formula) (fs : List Formula) → EachWritten s fs → In f fs → In (bytes_of f) (map bytes_of fs) × Record s f
+in_records s f [] w i = elim i [ ]
 in_records s f (g ∷ fs) w (inl e) = (inl (ap bytes_of e), subst (Record s) (sym e) (one s g w.0.1 w.0.2 w.0.0 w.0.3))
 in_records s f (g ∷ fs) w (inr i) = let t = in_records s f fs w.1 i in (inr t.0, t.1)
 
 -- ---- a number stands in one record only
 
 above : (k : ℕ) (b : List ℕ) (bs : List (List ℕ)) → Rising k bs → In b bs → k ≤ formula_number b
+above k b [] r i = elim i [ ]
 above k b (x ∷ xs) r (inl e) = subst (λ (y : List ℕ). k ≤ formula_number y) (sym e) r.0
 above k b (x ∷ xs) r (inr i) = omega (arith, r.0, above (formula_number x + 1) b xs r.1 i)
 
 only : (k : ℕ) (a b : List ℕ) (bs : List (List ℕ)) → Rising k bs → In a bs → In b bs → formula_number a ≡ formula_number b → a ≡ b
+only k a b [] r i j q = elim i [ ]
 only k a b (x ∷ xs) r (inl d) (inl e) q = d ∙ sym e
 only k a b (x ∷ xs) r (inl d) (inr i) q = absurd (omega (arith, q, ap formula_number d, above (formula_number x + 1) b xs r.1 i))
 only k a b (x ∷ xs) r (inr i) (inl e) q = absurd (omega (arith, q, ap formula_number e, above (formula_number x + 1) a xs r.1 i))
 only k a b (x ∷ xs) r (inr i) (inr j) q = only (formula_number x + 1) a b xs r.1 i j q
 
 has : (b : List ℕ) (bs : List (List ℕ)) → In b bs → Has (formula_number b) bs
+has b [] i = elim i [ ]
 has b (x ∷ xs) (inl e) = inl (ap formula_number (sym e))
 has b (x ∷ xs) (inr i) = inr (has b xs i)
 

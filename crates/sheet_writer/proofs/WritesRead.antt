@@ -209,10 +209,12 @@ writes_sheet s bytes room a h g =
 -- ---- each formula that the reader gives
 
 pub member : (s : ℕ) (b : List ℕ) (bs : List (List ℕ)) → EachFormula s bs → Bytes (in_line bs) → In b bs → FormulaBytes s b × Bytes b
+member s b [] f h i = elim i [ ]
 member s b (x ∷ xs) f h (inl e) = subst (λ (y : List ℕ). FormulaBytes s y × Bytes y) (sym e) (f.0, bytes_left x (in_line xs) h)
 member s b (x ∷ xs) f h (inr i) = member s b xs f.1 (bytes_right x (in_line xs) h) i
 
 holder : (n : ℕ) (bs : List (List ℕ)) → Has n bs → (b : List ℕ) × In b bs × (formula_number b ≡ n)
+holder n [] i = elim i [ ]
 holder n (x ∷ xs) (inl e) = (x, inl refl, e)
 holder n (x ∷ xs) (inr i) = let t = holder n xs i in (t.0, inr t.1, t.2)
 

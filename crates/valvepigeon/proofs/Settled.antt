@@ -1,6 +1,6 @@
 -- Promise: each function asks nothing of its caller, and settles its result and what the lent buffers hold afterwards: two that
 -- satisfy its contract are equal.
-use Rattle.whole.proofs.Basics.{◌≡◌, ◌∙◌, sym, now}
+use Rattle.whole.proofs.Basics.{◌≡◌, ◌∙◌, sym}
 use denote.Triple.Clauses.{AtExit}
 use contract.Lifetimes.{Lfts}
 use borrow.Fn.Kinds.{Dens, ended_of, res_t}
@@ -75,7 +75,7 @@ pub evaluate_settled : Settled evaluate-kinds.ps evaluate-kinds.r evaluate-reads
 evaluate_settled κs a x y s t p q = p ∙ sym q
 
 pub evaluate_double_settled : Settled double-kinds.ps double-kinds.r double-reads.Learnt
-evaluate_double_settled κs a x y s t p q = shown_by_once places (evaluated_double places (now a.0) a.1.0 a.1.1.0) x y p q
+evaluate_double_settled κs a x y s t p q = shown_by_once places (evaluated_double places a.0.now a.1.0 a.1.1.0) x y p q
 
 spans_once : (a : Found) (f : Formula) (x y : IntervalEnds) → Spans places a f x → Spans places a f y → x ≡ y
 spans_once Given f x y p q =
@@ -85,7 +85,7 @@ spans_once Given f x y p q =
 spans_once (Withheld r) f x y p q = p ∙ sym q
 
 pub interval_settled : Settled interval-kinds.ps interval-kinds.r interval-reads.Learnt
-interval_settled κs a x y s t p q = (let r = formula_read places (now a.0) a.1.0 in spans_once r.found r.formula x y p q)
+interval_settled κs a x y s t p q = (let r = formula_read places a.0.now a.1.0 in spans_once r.found r.formula x y p q)
 
 pub sine_settled : Settled sine-kinds.ps sine-kinds.r sine-reads.Learnt
 sine_settled κs a x y s t p q = p ∙ sym q
@@ -102,9 +102,9 @@ write_sheet_settled κs a x y s t p q = p.0 ∙ sym q.0
 -- ---- lent buffers: each writer's `out` is its second parameter, the only one that can change
 
 pub record_buffer_settled : (κs : Lfts 1) (a : Dens κs record-kinds.ps) (x y : (res_t record-kinds.r κs).Denot) (s t : AtExit (ended_of 1 record-kinds.ps record-kinds.r) κs)
-    → record-reads.Learnt κs a x s → record-reads.Learnt κs a y t → now s.1.0 ≡ now t.1.0
+    → record-reads.Learnt κs a x s → record-reads.Learnt κs a y t → s.1.0.now ≡ t.1.0.now
 record_buffer_settled κs a x y s t p q = p.1 ∙ sym q.1
 
 pub sheet_buffer_settled : (κs : Lfts 2) (a : Dens κs sheet-kinds.ps) (x y : (res_t sheet-kinds.r κs).Denot) (s t : AtExit (ended_of 2 sheet-kinds.ps sheet-kinds.r) κs)
-    → sheet-reads.Learnt κs a x s → sheet-reads.Learnt κs a y t → now s.1.0 ≡ now t.1.0
+    → sheet-reads.Learnt κs a x s → sheet-reads.Learnt κs a y t → s.1.0.now ≡ t.1.0.now
 sheet_buffer_settled κs a x y s t p q = p.1 ∙ sym q.1

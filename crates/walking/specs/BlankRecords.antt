@@ -85,8 +85,11 @@ not_seven_there (inl (e, inl f)) = omega (arith, f)
 not_seven_there (inl (e, inr (inl f))) = omega (arith, f)
 not_seven_there (inl (e, inr (inr (inl f)))) = omega (arith, f)
 not_seven_there (inl (e, inr (inr (inr (inl f))))) = omega (arith, f)
+not_seven_there (inl (e, inr (inr (inr (inr x))))) = elim x [ ]
 not_seven_there (inr (inl e, h)) = omega (arith, e)
+not_seven_there (inr (inr x, h)) = elim x [ ]
 
 not_in_a_record : BlankOrBefore 8 (nought ∷ []) (refusal 9 7) → ⊥
 not_in_a_record (inl (e, h)) = omega (arith, e)
 not_in_a_record (inr (inl e, h)) = omega (arith, e)
+not_in_a_record (inr (inr x, h)) = elim x [ ]
