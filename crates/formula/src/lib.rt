@@ -10,7 +10,7 @@ ghost use Rattle.formula.specs.Formula.{most_of, worked, worked_of, stored_words
 use word::Marked;
 
 // A formula's kind. `NoFormula` is the kind of a record that is no formula.
-#[derive(Drop)]
+#[derive(Clone, Copy)]
 pub enum Kind {
     Polynomial,
     Rational,
@@ -23,7 +23,7 @@ pub enum Kind {
 
 // What a formula's stored words mean: p is the count of a polynomial, odd and even ones included, the numerator's count or the
 // depth; q is the divisor's count.
-#[derive(Drop)]
+#[derive(Clone, Copy)]
 pub struct Shape {
     pub kind: Kind,
     pub p: u16,

@@ -11,7 +11,7 @@ use formula::Kind;
 use multiply::times;
 
 // What a record does in a sheet.
-#[derive(Drop)]
+#[derive(Clone, Copy)]
 pub enum Class {
     StartRecord,
     FormulaRecord,
@@ -21,7 +21,7 @@ pub enum Class {
 
 // A count or a mode, of two bytes: where it stands in its record (0: nowhere), its range, and how many pieces there are
 // for each one of it.
-#[derive(Drop)]
+#[derive(Clone, Copy)]
 pub struct Field {
     pub at: usize,
     pub least: u16,
@@ -32,7 +32,7 @@ pub struct Field {
 // A record of the kind has `head` bytes, then base + p.each * p + q.each * q pieces of `width` bytes each: a formula's
 // words. A p that stands nowhere is the number of pieces by the record's length; a q or a mode that stands nowhere is 0.
 // A start and an end have a count, and no pieces.
-#[derive(Drop)]
+#[derive(Clone, Copy)]
 pub struct Row {
     pub code: u16,
     pub class: Class,
@@ -66,7 +66,7 @@ pub const END: u16 = 0xffff;
 // A row as the table keeps it, its numbers side by side: the prover's work for a constant grows with the structs in it.
 // The numbers, from left to right: head, width, base; then at, least, most, each of p; the same four of q; of the mode; of the
 // count.
-#[derive(Drop)]
+#[derive(Clone, Copy)]
 struct Line {
     code: u16,
     class: Class,

@@ -11,7 +11,7 @@ use faults::{Refusal, framing};
 
 // Where the walk stands: the next record's place, the place of the record that is asked for (0: none yet), the number that is
 // asked for, the least number that the next formula may have, how many formulas there may be, and how many it has seen.
-#[derive(Drop)]
+#[derive(Clone, Copy)]
 pub struct Walk {
     pub at: usize,
     pub found: usize,
