@@ -1,5 +1,5 @@
 -- `desk::interval` meets its contract: the ends of the record that stands at the place, or the place's refusal.
-use Rattle.whole.proofs.Basics.{◌≡◌, ◌∙◌, sym, now, needs}
+use Rattle.whole.proofs.Basics.{◌≡◌, ◌∙◌, sym, rules}
 use Rattle.sheet.specs.Reader.{formula_place, FormulaStands}
 use Rattle.sheet.specs.declared.answers.Place.TheVariants.{At}
 use Rattle.sheet.proofs.Places.{place_standing}
@@ -8,42 +8,42 @@ use Rattle.desk.proofs.interval.Statement.{statement}
 use Rattle.desk.proofs.interval.Tie as tie
 
 -- the place that was answered, and what stands there
-module _ (c : tie.After-known-told) where
+module _ (c : tie.In-At) where
   abbrev start : tie.Start
-  start = c.before.before.before.before.before
+  start = c.before.before.before
 
-  found : formula_place start.args.places (now start.args.s) start.args.number ≡ At c.before.place.given.0.0
-  found = sym c.before.before.before.formula-place.ensures ∙ c.before.place.given.1
+  found : formula_place start.args.places start.args.s.now start.args.number ≡ At c.place.given.0.0
+  found = sym c.formula_place.ensures ∙ c.place.given.1
 
-  standing : FormulaStands start.args.places (now start.args.s) c.before.place.given.0.0
+  standing : FormulaStands start.args.places start.args.s.now c.place.given.0.0
   standing = place_standing _ _ _ _ found
 
-record-at-requires : tie.Need-record-at-requires
+record-at-requires : tie.Need-record_at-requires
 record-at-requires c κs = (standing c).reach
 
-ends-of-requires : tie.Need-ends-of-requires
-ends-of-requires c κs = let t = standing c.before in (t.scale, rw c.record-at.ensures t.here)
+ends-of-requires : tie.Need-ends_of-requires
+ends-of-requires c κs = let t = standing c.before in (t.scale, rw c.record_at.ensures t.here)
 
-returns : tie.Need-returns
+returns : tie.Need-returns-in-At
 returns c =
     let k = c.before.before in
     let a = (start k).args in
-    ends_at a.places (now a.s) a.number _ _ (found k) (rw c.before.record-at.ensures at c.ends_of.ensures)
+    ends_at a.places a.s.now a.number _ _ (found k) (rw c.record_at.ensures at c.ends_of.ensures)
 
-returns-2 : tie.Need-returns-2
+returns-2 : tie.Need-returns-in-Refused
 returns-2 c =
     let p = c.before in
-    let a = p.before.before.before.before.args in
-    ends_refused a.places (now a.s) a.number _ (sym p.before.before.formula-place.ensures ∙ p.r.given.1)
+    let a = p.args in
+    ends_refused a.places a.s.now a.number _ (sym p.formula_place.ensures ∙ p.r.given.1)
 
-pub interval-spec : {M : Type 1} → statement M
-interval-spec =
+pub interval_spec : {M : Type 1} → statement M
+interval_spec =
     tie.close
     (tie.spec
-    (λ c κs. search needs)
-    (λ c. search needs)
+    (λ c κs. search rules)
+    (λ c. search rules)
     record-at-requires
     ends-of-requires
-    (λ c. search needs)
+    (λ c. search rules)
     returns
     returns-2)

@@ -1,5 +1,5 @@
 -- `door::shown` meets its contract: w is read back from its bits, and `1 << s` does not wrap.
-use Rattle.whole.proofs.Basics.{◌≡◌, ◌∙◌, sym, ap₂, subst, ℕ, ◌*◌, ◌%◌, ◌^◌, ◌≤◌, arith, ℤ, pos, w32, needs}
+use Rattle.whole.proofs.Basics.{◌≡◌, ◌∙◌, sym, ap₂, subst, ℕ, ◌*◌, ◌%◌, ◌^◌, ◌≤◌, arith, ℤ, pos, w32, rules}
 use native.Mathlib.Nat.{one-mul, mod-eq_of_lt}
 use lib.Pow.{pow-lt}
 use lib.Ieee.{binary64, div, of_int}
@@ -23,5 +23,5 @@ returns c =
     (sym (ap₂ (λ (z : ℤ) (u : ℕ). div binary64 (of_int binary64 z) (of_int binary64 (pos u))) (to_z-of_z w32 w start.ranges.w) (unit-is s start.requires.most)))
     (exactly_quotient s w (omega (arith, start.requires.most)) (omega (arith, size (v w), fit_out (v w) start.ranges.w)))
 
-pub shown-spec : {M : Type 1} → statement M
-shown-spec = tie.close (tie.spec (λ c. search needs) (λ c. search needs) (λ c. search needs) returns)
+pub shown_spec : {M : Type 1} → statement M
+shown_spec = tie.close (tie.spec (λ c. search rules) (λ c. search rules) (λ c. search rules) returns)

@@ -1,5 +1,5 @@
 -- `door::taken` meets its contract: x is read back from the fields that the code takes, and each return is a law of `FieldLaws` at them.
-use Rattle.whole.proofs.Basics.{◌≡◌, ◌∙◌, sym, ap, ap₂, subst, false, not, ℕ, ◌+◌, ◌-◌, ◌^◌, arith, T, ℤ, pos, nat_abs, w64, SFits, needs}
+use Rattle.whole.proofs.Basics.{◌≡◌, ◌∙◌, sym, ap, ap₂, subst, false, not, ℕ, ◌+◌, ◌-◌, ◌^◌, arith, T, ℤ, pos, nat_abs, w64, SFits, rules}
 use mathlib.Core.Bool.{true≢false}
 use lib.Bits.{bit_or}
 use lib.Ieee.{Float, nan, inf, fin, binary64, fits, is_nan, ne, hid, to_bits, of_fields}
@@ -40,78 +40,78 @@ module _ (c : tie.Start) where
   held-digits : Held w64 (pos (bit_or (fraction b) 4503599627370496)) (pos (hid binary64 + fraction b))
   held-digits = known (ap pos (leading_digit b)) (fit (n (hid binary64 + fraction b)) (omega (arith, fraction_most b)))
 
-returns : tie.Need-returns
-returns c = sym (ap (taken_of (s c.before)) (differs_from_itself c.before.args.x (subst T (sym c.if1.true) tt)) ∙ taken_nan (s c.before))
+returns : tie.Need-returns-then-x
+returns c = sym (ap (taken_of (s c.before)) (differs_from_itself c.args.x (subst T (sym c.if-x.true) tt)) ∙ taken_nan (s c.before))
 
-float-to-bits-b : tie.Need-float-to-bits-b
-float-to-bits-b c = no_nan c.before.args.x c.if1.false
+float-to-bits-b : tie.Need-float_to_bits-b
+float-to-bits-b c = no_nan c.args.x c.if-x.false
 
-cast-exponent : tie.Need-overflow-cast-exponent
+cast-exponent : tie.Need-overflow_cast-exponent
 cast-exponent c = record { fits = omega (arith, exponent_most (b c.before)) }
 
-returns-2 : tie.Need-returns-2
+returns-2 : tie.Need-returns-then-exponent-eq2047
 returns-2 c =
     let d = c.before.before in
-    by_fields d _ (field_ones (s d) (sign_bit (b d)) (exponent (b d)) (fraction (b d)) (omega (arith, c.if2.true)))
+    by_fields d _ (field_ones (s d) (sign_bit (b d)) (exponent (b d)) (fraction (b d)) (omega (arith, c.if-exponent-eq2047.true)))
 
-add-e : tie.Need-overflow-add-e
-add-e c = record { fits = omega (arith, exponent_most (b c.before.before), c.before.before.requires.most) }
+add-e : tie.Need-overflow_add-e
+add-e c = record { fits = omega (arith, exponent_most (b c.before.before), c.requires.most) }
 
-returns-3 : tie.Need-returns-3
+returns-3 : tie.Need-returns-then-e-ge1075
 returns-3 c =
     let d = c.before.before.before in
-    by_fields d _ (field_high (s d) (sign_bit (b d)) (exponent (b d)) (fraction (b d)) d.requires.most (omega (arith, exponent_most (b d), c.before.if2.false)) (omega (arith, c.if3.true)))
+    by_fields d _ (field_high (s d) (sign_bit (b d)) (exponent (b d)) (fraction (b d)) d.requires.most (omega (arith, exponent_most (b d), c.if-exponent-eq2047.false)) (omega (arith, c.if-e-ge1075.true)))
 
-returns-4 : tie.Need-returns-4
+returns-4 : tie.Need-returns-then-e-lt1022
 returns-4 c =
     let d = c.before.before.before.before in
     by_fields d _
-    (field_low (s d) (sign_bit (b d)) (exponent (b d)) (fraction (b d)) d.requires.most (fraction_most (b d)) (omega (arith, c.if4.true))
+    (field_low (s d) (sign_bit (b d)) (exponent (b d)) (fraction (b d)) d.requires.most (fraction_most (b d)) (omega (arith, c.if-e-lt1022.true))
     ∙ ap (Word (pos 0)) (zero_bits (b d)))
 
-cast-with-sign : tie.Need-overflow-cast-with-sign
+cast-with-sign : tie.Need-overflow_cast-fraction
 cast-with-sign c = fits_code (held-digits c.before.before.before.before)
 
-with-sign-requires : tie.Need-with-sign-requires
+with-sign-requires : tie.Need-with_sign-n-requires
 with-sign-requires c κs =
     let d = c.before.before.before.before in
     omega (arith, held_nat (held-digits d), fraction_most (b d))
 
 -- what is handed to `rounded_shift`
-n-is : (c : tie.After-with-sign) → let d = c.before.before.before.before.before in back w64 c.with-sign.result ≡ with_sign (sign_bit (b d)) (pos (hid binary64 + fraction (b d)))
+n-is : (c : tie.After-with_sign-n) → let d = c.before.before.before.before.before in back w64 c.with_sign-n.result ≡ with_sign (sign_bit (b d)) (pos (hid binary64 + fraction (b d)))
 n-is c =
     let d = c.before.before.before.before.before in
-    held (given {w = w64} c.with-sign.type-inv) ∙ c.with-sign.ensures ∙ ap (with_sign (sign_bit (b d))) (held (held-digits d))
+    held (given {w = w64} c.with_sign-n.type_inv) ∙ c.with_sign-n.ensures ∙ ap (with_sign (sign_bit (b d))) (held (held-digits d))
 
-rounded-shift-requires : tie.Need-rounded-shift-requires
+rounded-shift-requires : tie.Need-rounded_shift-r-requires
 rounded-shift-requires c κs =
     let d = c.before.before.before.before.before in (
       omega (arith, ap nat_abs (n-is c), sign_abs (sign_bit (b d)) (pos (hid binary64 + fraction (b d))), fraction_most (b d)),
-      omega (arith, c.before.before.if3.false),
-      omega (arith, c.before.if4.false),
+      omega (arith, c.if-e-ge1075.false),
+      omega (arith, c.if-e-lt1022.false),
     )
 
-is-whole-requires : tie.Need-is-whole-requires
-is-whole-requires c κs = omega (arith, c.before.before.if4.false)
+is-whole-requires : tie.Need-is_whole-requires
+is-whole-requires c κs = omega (arith, c.if-e-lt1022.false)
 
 -- what is handed to `as_word`
-value-fits : (c : tie.After-struct-told) → SFits w64 c.before.before.rounded-shift.result.value
-value-fits c = search (needs, c.struct_told.given)
+value-fits : (c : tie.After-struct_told-1) → SFits w64 c.rounded_shift-r.result.value
+value-fits c = search (rules, c.struct_told-1.given)
 
-returns-5 : tie.Need-returns-5
+returns-5 : tie.Need-returns
 returns-5 c =
     let r = c.before.before.before in
     let k = r.before in
     let d = k.before.before.before.before.before in
     let cut = 1075 - (exponent (b d) + s d) in
     by_fields d _
-    (field_mid (s d) (sign_bit (b d)) (exponent (b d)) (fraction (b d)) d.requires.most (omega (arith, k.before.if4.false)) (omega (arith, k.before.before.if3.false))
+    (field_mid (s d) (sign_bit (b d)) (exponent (b d)) (fraction (b d)) d.requires.most (omega (arith, k.if-e-lt1022.false)) (omega (arith, k.if-e-ge1075.false))
     ∙ ap (λ (z : ℤ). from_ratio z (2 ^ cut)) (sym (n-is k))
-    ∙ ap₂ as_word (sym (held (arg (value-fits c.before)) ∙ r.rounded-shift.ensures.0)) (sym (c.before.before.is_whole.ensures ∙ r.rounded-shift.ensures.1))
-    ∙ sym c.as-word.ensures)
+    ∙ ap₂ as_word (sym (held (arg (value-fits c.before)) ∙ r.rounded_shift-r.ensures.0)) (sym (c.is_whole.ensures ∙ r.rounded_shift-r.ensures.1))
+    ∙ sym c.as_word.ensures)
 
-pub taken-spec : {M : Type 1} → statement M
-taken-spec =
+pub taken_spec : {M : Type 1} → statement M
+taken_spec =
     tie.close
     (tie.spec
     returns
@@ -123,8 +123,8 @@ taken-spec =
     returns-4
     cast-with-sign
     with-sign-requires
-    (λ c. search needs)
+    (λ c. search rules)
     rounded-shift-requires
     is-whole-requires
-    (λ c κs. search needs)
+    (λ c κs. search rules)
     returns-5)

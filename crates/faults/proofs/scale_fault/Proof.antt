@@ -4,11 +4,11 @@ use Rattle.faults.specs.Faults.{scale_fault}
 use Rattle.faults.proofs.scale_fault.Statement.{statement}
 use Rattle.faults.proofs.scale_fault.Tie as tie
 
-pub scale-fault-spec : {M : Type 1} → statement M
+pub scale_fault_spec : {M : Type 1} → statement M
 unfolding scale_fault
-scale-fault-spec =
+scale_fault_spec =
     tie.close
     (tie.spec
-    (λ c. simp (lt-ltb _ _ c.if1.true))
-    (λ c. simp (le-ltb _ _ c.before.if1.false, lt-ltb _ _ c.if2.true))
-    (λ c. simp (le-ltb _ _ c.before.if1.false, le-ltb _ _ c.if2.false)))
+    (λ c. simp (lt-ltb _ _ c.if-s-lt16.true))
+    (λ c. simp (le-ltb _ _ c.if-s-lt16.false, lt-ltb _ _ c.if-s-gt28.true))
+    (λ c. simp (le-ltb _ _ c.if-s-lt16.false, le-ltb _ _ c.if-s-gt28.false)))

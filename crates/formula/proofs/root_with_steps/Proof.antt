@@ -17,29 +17,29 @@ use Rattle.formula.proofs.root_with_steps.Tie as tie
 x-is : (c : tie.Start) → back w32 c.args.x ≡ c.args.x
 x-is c = held (arg c.ranges.x)
 
-root-requires : tie.Need-root-requires
+root-requires : tie.Need-root-r-requires
 root-requires c κs = subst (Rootable c.args.s) (sym (x-is c)) c.requires
 
-module _ (c : tie.After-root) where
+module _ (c : tie.After-root-r) where
   abbrev v : ℕ
-  v = nat_abs c.before.args.x * unit c.before.args.s
+  v = nat_abs c.args.x * unit c.args.s
 
-  rooted-is : rooted c.root.result.root c.root.result.steps ≡ heron_of v
-  rooted-is = c.root.ensures.0 ∙ ap (rooted_by c.before.args.s) (x-is c.before)
+  rooted-is : rooted c.root-r.result.root-r c.root-r.result.steps ≡ heron_of v
+  rooted-is = c.root-r.ensures.0 ∙ ap (rooted_by c.args.s) (x-is c.before)
 
-  root_is : c.root.result.root ≡ root_of v
-  root_is = ap (λ (r : Rooted). r.root) rooted-is ∙ heron_is v
+  root_is : c.root-r.result.root-r ≡ root_of v
+  root_is = ap (λ (r : Rooted). r.root-r) rooted-is ∙ heron_is v
 
-  root-fits : SFits w32 (pos c.root.result.root)
-  root-fits = fit (n c.root.result.root) (omega (arith, root_is, root_most v (scaled_most (nat_abs c.before.args.x) c.before.args.s (omega (arith, c.before.requires.1)) c.before.requires.0.most)))
+  root-fits : SFits w32 (pos c.root-r.result.root-r)
+  root-fits = fit (n c.root-r.result.root-r) (omega (arith, root_is, root_most v (scaled_most (nat_abs c.args.x) c.args.s (omega (arith, c.requires.1)) c.requires.0.most)))
 
-  answer_is : worked (back w32 (pos c.root.result.root)) c.root.result.steps c.root.result.exact ≡ worked (root_word c.before.args.s c.before.args.x) (rooted_by c.before.args.s c.before.args.x).steps (exact_root c.before.args.s c.before.args.x)
+  answer_is : worked (back w32 (pos c.root-r.result.root-r)) c.root-r.result.steps c.root-r.result.exact ≡ worked (root_word c.args.s c.args.x) (rooted_by c.args.s c.args.x).steps (exact_root c.args.s c.args.x)
   answer_is =
-      ap₂ (λ (w : ℤ) (k : ℕ). worked w k c.root.result.exact) (held (arg root-fits) ∙ ap pos root_is) (ap (λ (r : Rooted). r.steps) rooted-is)
-      ∙ ap (worked (root_word c.before.args.s c.before.args.x) (rooted_by c.before.args.s c.before.args.x).steps) (c.root.ensures.1 ∙ ap (exact_root c.before.args.s) (x-is c.before))
+      ap₂ (λ (w : ℤ) (k : ℕ). worked w k c.root-r.result.exact) (held (arg root-fits) ∙ ap pos root_is) (ap (λ (r : Rooted). r.steps) rooted-is)
+      ∙ ap (worked (root_word c.args.s c.args.x) (rooted_by c.args.s c.args.x).steps) (c.root-r.ensures.1 ∙ ap (exact_root c.args.s) (x-is c.before))
 
 returns : tie.Need-returns
 returns c = answer_is c.before
 
-pub root-with-steps-spec : {M : Type 1} → statement M
-root-with-steps-spec = tie.close (tie.spec root-requires (λ c. root-fits c.before) returns)
+pub root_with_steps_spec : {M : Type 1} → statement M
+root_with_steps_spec = tie.close (tie.spec root-requires (λ c. root-fits c.before) returns)

@@ -1,5 +1,5 @@
 -- `layout::fill_words` meets its contract. The invariant: the array holds the words read so far, and zeros behind them.
-use Rattle.whole.proofs.Basics.{◌≡◌, ◌-◌, ◌≤◌, arith, needs}
+use Rattle.whole.proofs.Basics.{◌≡◌, ◌-◌, ◌≤◌, arith, rules}
 use Rattle.stored.specs.Words.{words}
 use Rattle.stored.proofs.Back.{back}
 use Rattle.layout.specs.Fields.{padded}
@@ -7,39 +7,39 @@ use Rattle.layout.proofs.Padded.{turn}
 use Rattle.layout.proofs.fill_words.Statement.{statement}
 use Rattle.layout.proofs.fill_words.Tie as tie
 
-abbrev invariant-loop : tie.invariant-loop
+abbrev invariant-loop : tie.invariant-loop-i
 invariant-loop b at m out₀ i₀ out i = (i ≤ m) × (out ≡ padded (words b at i))
 
-abbrev decreases-loop : tie.decreases-loop
+abbrev decreases-loop : tie.decreases-loop-i
 decreases-loop b at m out₀ i₀ out i = m - i
 
-loop-holds : tie.Need-loop-init invariant-loop decreases-loop
+loop-holds : tie.Need-loop-i-init invariant-loop decreases-loop
 unfolding words
-loop-holds c = (search needs, search needs)
+loop-holds c = (search rules, search rules)
 
-loop-again : tie.Need-loop-preserved invariant-loop decreases-loop
+loop-again : tie.Need-loop-i-preserved invariant-loop decreases-loop
 loop-again c =
     let l = c.before.before in
-    (search needs, turn _ _ l.loop.i l.loop.out _ (search needs) l.loop.invariant.1 (back (search needs) c.get-word.ensures))
+    (search rules, turn _ _ l.loop-i.i l.loop-i.out _ (search rules) l.loop-i.invariant.1 (back (search rules) c.get_word.ensures))
 
 returns : tie.Need-returns invariant-loop decreases-loop
 returns c =
-    let e : c.before.loop.i ≡ c.before.before.before.args.m = omega arith in
-    rw e at c.before.loop.invariant.1
+    let e : c.loop-i.i ≡ c.args.m = omega arith in
+    rw e at c.loop-i.invariant.1
 
-pub fill-words-spec : {M : Type 1} → statement M
-fill-words-spec =
+pub fill_words_spec : {M : Type 1} → statement M
+fill_words_spec =
     tie.close
     (tie.spec
     invariant-loop
     decreases-loop
     loop-holds
-    (λ c. search needs)
-    (λ c. search needs)
-    (λ c κs. search needs)
-    (λ c. search needs)
-    (λ c. search needs)
-    (λ c. search needs)
-    (λ c. search needs)
+    (λ c. search rules)
+    (λ c. search rules)
+    (λ c κs. search rules)
+    (λ c. search rules)
+    (λ c. search rules)
+    (λ c. search rules)
+    (λ c. search rules)
     loop-again
     returns)

@@ -1,5 +1,5 @@
 -- `put_interval` meets its contract: five texts one behind the other, at most 25 characters in all.
-use Rattle.whole.proofs.Basics.{arith, to_z-of_z, needs}
+use Rattle.whole.proofs.Basics.{arith, to_z-of_z, rules}
 use Rattle.text.proofs.TextLaws.{behind}
 use Rattle.line.proofs.put_interval.Statement.{statement}
 use Rattle.line.proofs.put_interval.Tie as tie
@@ -12,23 +12,23 @@ returns c =
     let lo = space.before.before.before.before.before in
     let first = lo.before.before.before.before in
     let s = first.before.before.before.before in
-    let low = rw (to_z-of_z s.ranges.lo) at lo.put-signed.ensures in
-    let high = rw (to_z-of_z s.ranges.hi) at hi.put-signed2.ensures in (
-      behind (behind (behind (behind first.put-text.ensures low.0) space.put-text2.ensures) high.0) feed.put-text3.ensures,
+    let low = rw (to_z-of_z s.ranges.lo) at lo.put_signed-b.ensures in
+    let high = rw (to_z-of_z s.ranges.hi) at hi.put_signed-end.ensures in (
+      behind (behind (behind (behind first.put_text-a.ensures low.0) space.put_text-c.ensures) high.0) feed.put_text.ensures,
       omega arith,
     )
 
-pub put-interval-spec : {M : Type 1} → statement M
-put-interval-spec =
+pub put_interval_spec : {M : Type 1} → statement M
+put_interval_spec =
     tie.close
     (tie.spec
-    (λ c. search needs)
-    (λ c κs. search needs)
-    (λ c κs. search needs)
-    (λ c. search needs)
-    (λ c κs. search needs)
-    (λ c κs. search needs)
-    (λ c. search needs)
-    (λ c κs. search needs)
-    (λ c. search needs)
+    (λ c. search rules)
+    (λ c κs. search rules)
+    (λ c κs. search rules)
+    (λ c. search rules)
+    (λ c κs. search rules)
+    (λ c κs. search rules)
+    (λ c. search rules)
+    (λ c κs. search rules)
+    (λ c. search rules)
     returns)

@@ -4,13 +4,13 @@ use Rattle.putting.specs.Plain.{kept}
 use Rattle.putting.proofs.kept.Statement.{statement}
 use Rattle.putting.proofs.kept.Tie as tie
 
-returns : tie.Need-returns
+returns : tie.Need-returns-then-field-eq0
 unfolding kept
-returns c = simp (eq-eqb _ _ c.if1.true)
+returns c = simp (eq-eqb _ _ c.if-field-eq0.true)
 
-returns-2 : tie.Need-returns-2
+returns-2 : tie.Need-returns
 unfolding kept
-returns-2 c = simp (ne_eqb _ _ c.if1.false)
+returns-2 c = simp (ne_eqb _ _ c.if-field-eq0.false)
 
-pub kept-spec : {M : Type 1} → statement M
-kept-spec = tie.close (tie.spec returns returns-2)
+pub kept_spec : {M : Type 1} → statement M
+kept_spec = tie.close (tie.spec returns returns-2)

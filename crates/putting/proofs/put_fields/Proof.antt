@@ -1,5 +1,5 @@
 -- `putting::put_fields` meets its contract: each field stands behind the one before it, if it is stored.
-use Rattle.whole.proofs.Basics.{◌∙◌, ◌++◌, ◌+◌, arith, length-append, now, needs}
+use Rattle.whole.proofs.Basics.{◌∙◌, ◌++◌, ◌+◌, arith, length-append, rules}
 use Rattle.stored.proofs.StoreLaws.{next}
 use Rattle.table.specs.Order.{field_size}
 use Rattle.putting.specs.Bytes.{field_bytes, fields_bytes}
@@ -21,12 +21,12 @@ returns c =
     let second = field_bytes r.p h.p in
     let third = field_bytes r.q h.q in
     let l = length-field r.mode h.mode in
-    next (now s.args.out) (first ++ second) third 16 (16 + field_size r.mode + field_size r.p)
-    (next (now s.args.out) first second 16 (16 + field_size r.mode) (m.put-field.ensures ∙ field_at r.mode _ 16 _ o.mode) (omega (arith, l)) (p.put-field2.ensures ∙ field_at r.p _ _ _ o.p))
+    next s.args.out.now (first ++ second) third 16 (16 + field_size r.mode + field_size r.p)
+    (next s.args.out.now first second 16 (16 + field_size r.mode) (m.put_field.ensures ∙ field_at r.mode _ 16 _ o.mode) (omega (arith, l)) (p.put_field-2.ensures ∙ field_at r.p _ _ _ o.p))
     (omega (arith, l, length-field r.p h.p, length-append first second))
-    (q.put-field3.ensures ∙ field_at r.q _ _ _ o.q)
+    (q.put_field-3.ensures ∙ field_at r.q _ _ _ o.q)
 
-pub put-fields-spec : {M : Type 1} → statement M
-put-fields-spec =
+pub put_fields_spec : {M : Type 1} → statement M
+put_fields_spec =
     tie.close
-    (tie.spec (λ c κs. search needs) (λ c κs. search needs) (λ c κs. search needs) (λ c. search needs) returns)
+    (tie.spec (λ c κs. search rules) (λ c κs. search rules) (λ c κs. search rules) (λ c. search rules) returns)

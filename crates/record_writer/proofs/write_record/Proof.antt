@@ -1,5 +1,5 @@
 -- `record_writer::write_record` meets its contract: no formula (3), the scale's fault, the counts', and what the reader's check makes of the record.
-use Rattle.whole.proofs.Basics.{◌≡◌, ◌∙◌, refl, sym, ap, List, ℕ, ◌≤◌, arith, length, take, get_or, pos, w32, SFits, now, needs, eq-eqb}
+use Rattle.whole.proofs.Basics.{◌≡◌, ◌∙◌, refl, sym, ap, List, ℕ, ◌≤◌, arith, length, take, get_or, pos, w32, SFits, rules, eq-eqb}
 use lib.ListN.{replicate}
 use lib.Seq.{sets, length-sets, length-take-le}
 use Rattle.formula.specs.declared.Formula.{Formula}
@@ -19,38 +19,38 @@ use Rattle.record_writer.proofs.write_record.Statement.{statement}
 use Rattle.record_writer.proofs.write_record.Tie as tie
 
 each_fits : (s : tie.Start) (k : ℕ) → SFits w32 (get_or s.args.f.words k (pos 0))
-each_fits s k = search (needs, field_element)
+each_fits s k = search (rules, field_element)
 
 handed : (s : tie.Start) → Handed s.args.f
-handed s = record { number = search needs; mode = search needs; lo = search needs; hi = search needs; each = each_fits s; long = search needs }
+handed s = record { number = search rules; mode = search rules; lo = search rules; hi = search rules; each = each_fits s; long = search rules }
 
-returns : tie.Need-returns
+returns : tie.Need-returns-then-code-eq0
 unfolding row_of first_row rows
 returns c =
     let k = c.before.before in
-    let a = k.before.before.before.args in
-    (at_no_code a.s a.f (length (now a.out)) k.code-for.result k.code-for.ensures (rw c.before.if1.true refl) c.refused-by.ensures, rw c.refused-by.ensures refl)
+    let a = k.args in
+    (at_no_code a.s a.f (length a.out.now) k.code_for-code.result k.code_for-code.ensures (rw c.if-code-eq0.true refl) c.refused_by.ensures, rw c.refused_by.ensures refl)
 
 -- ---- past the code: the kind is a formula's
-class : (c : tie.Else1) → (row_by c.before.before.before.before.args.f).class ≡ FormulaRecord
-class c = class_of_row c.before.before.before.before.args.f.shape.kind (λ z. c.if1.false (c.before.code-for.ensures ∙ z))
+class : (c : tie.Else-code-eq0) → (row_by c.args.f).class ≡ FormulaRecord
+class c = class_of_row c.args.f.shape.kind (λ z. c.if-code-eq0.false (c.code_for-code.ensures ∙ z))
 
-formula : (c : tie.Else1) → only_formula (row_of c.before.code-for.result).class ≡ 0
-formula c = rw (c.before.code-for.ensures, class c) refl
+formula : (c : tie.Else-code-eq0) → only_formula (row_of c.code_for-code.result).class ≡ 0
+formula c = rw (c.code_for-code.ensures, class c) refl
 
-returns-2 : tie.Need-returns-2
+returns-2 : tie.Need-returns-then-a-ne0
 returns-2 c =
     let g = c.before.before in
     let i = g.before in
-    let a = i.before.before.before.before.args in (
-      at_code a.s a.f (length (now a.out)) i.before.code-for.result i.before.code-for.ensures (formula i) (halts refused_by _ g.scale-fault.ensures c.before.if2.true c.refused-by2.ensures),
-      rw c.refused-by2.ensures refl,
+    let a = i.args in (
+      at_code a.s a.f (length a.out.now) i.code_for-code.result i.code_for-code.ensures (formula i) (halts refused_by _ g.scale_fault-a.ensures c.if-a-ne0.true c.refused_by-then-a-ne0.ensures),
+      rw c.refused_by-then-a-ne0.ensures refl,
     )
 
-put-by-kind-requires : tie.Need-put-by-kind-requires
-put-by-kind-requires c κs = let i = c.before.before.before in (i.before.code-for.ensures, rw i.before.code-for.ensures (class i))
+put-by-kind-requires : tie.Need-put_by_kind-n-requires
+put-by-kind-requires c κs = let i = c.before.before.before in (i.code_for-code.ensures, rw i.code_for-code.ensures (class i))
 
-returns-3 : tie.Need-returns-3
+returns-3 : tie.Need-returns-then-n-eq0
 unfolding plain_writing
 returns-3 c =
     let p = c.before.before in
@@ -58,15 +58,15 @@ returns-3 c =
     let i = g.before in
     let s = i.before.before.before.before in
     let a = s.args in
-    let two = put_none a.f (class i) (handed s) (sym p.put-by-kind.ensures.0 ∙ c.before.if3.true) in (
-      at_code a.s a.f (length (now a.out)) i.before.code-for.result i.before.code-for.ensures (formula i)
-          (goes refused_by g.scale-fault.ensures p.before.before.if2.false (halts refused_by _ (sym two) (λ z. omega arith) c.refused-by3.ensures)),
-      rw c.refused-by3.ensures refl,
+    let two = put_none a.f (class i) (handed s) (sym p.put_by_kind-n.ensures.0 ∙ c.if-n-eq0.true) in (
+      at_code a.s a.f (length a.out.now) i.code_for-code.result i.code_for-code.ensures (formula i)
+          (goes refused_by g.scale_fault-a.ensures p.if-a-ne0.false (halts refused_by _ (sym two) (λ z. omega arith) c.refused_by-then-n-eq0.ensures)),
+      rw c.refused_by-then-n-eq0.ensures refl,
     )
 
 -- ---- past the counts: the record at the front of the array
-module _ (c : tie.Else3) where
-  abbrev put : tie.After-put-by-kind
+module _ (c : tie.Else-n-eq0) where
+  abbrev put : tie.After-put_by_kind-n
   put = c.before
 
   abbrev start : tie.Start
@@ -76,67 +76,67 @@ module _ (c : tie.Else3) where
   f = start.args.f
 
   counts : counts_fault f ≡ 0
-  counts = put_some f (class put.before.before.before.before) (handed start) (λ z. c.if3.false (put.put-by-kind.ensures.0 ∙ z))
+  counts = put_some f (class put.before.before.before.before) (handed start) (λ z. c.if-n-eq0.false (put.put_by_kind-n.ensures.0 ∙ z))
 
-  long : put.put-by-kind.result ≡ length (bytes_of f)
-  long = rw (eq-eqb _ _ counts) at put.put-by-kind.ensures.0
+  long : put.put_by_kind-n.result ≡ length (bytes_of f)
+  long = rw (eq-eqb _ _ counts) at put.put_by_kind-n.ensures.0
 
   short : (16 ≤ length (bytes_of f)) × (length (bytes_of f) ≤ 120)
   short = short_record (row_by f) (plain f) (tidy f (class put.before.before.before.before) counts (handed start))
 
   abbrev array : List ℕ
-  array = put.put-by-kind.last.1.1.0
+  array = put.put_by_kind-n.last.1.1.0
 
   array-is : array ≡ sets (replicate 120 0) 0 (bytes_of f)
-  array-is = rw (eq-eqb _ _ counts) at put.put-by-kind.ensures.1
+  array-is = rw (eq-eqb _ _ counts) at put.put_by_kind-n.ensures.1
 
-  first-bytes : take put.put-by-kind.result array ≡ bytes_of f
-  first-bytes = ap (take put.put-by-kind.result) array-is ∙ front_taken (replicate 120 0) (bytes_of f) put.put-by-kind.result long (omega (arith, short.1))
+  first-bytes : take put.put_by_kind-n.result array ≡ bytes_of f
+  first-bytes = ap (take put.put_by_kind-n.result) array-is ∙ front_taken (replicate 120 0) (bytes_of f) put.put_by_kind-n.result long (omega (arith, short.1))
 
   room : length array ≡ 120
   room = ap length array-is ∙ length-sets (replicate 120 0) 0 (bytes_of f)
 
-array-share-prefix-bytes : tie.Need-array-share-prefix-bytes
+array-share-prefix-bytes : tie.Need-slice_bounds-bytes-end
 array-share-prefix-bytes c = omega (arith, room c, long c, (short c).1)
 
-slice-aggregate-copy-judged : tie.Need-slice-aggregate-copy-judged
+slice-aggregate-copy-judged : tie.Need-slice_bounds-copy_judged-end
 slice-aggregate-copy-judged c = sym (length-take-le _ _ (array-share-prefix-bytes c.before))
 
-copy-judged-requires : tie.Need-copy-judged-requires
+copy-judged-requires : tie.Need-copy_judged-requires
 copy-judged-requires c κs =
     let e = c.before.before in
     let i = e.before.before.before in
     let l = ap length (first-bytes e) in
-    (good_scale (start e).args.s (sym i.before.scale-fault.ensures ∙ i.if2.false), omega (arith, l, (short e).0), omega (arith, l, (short e).1))
+    (good_scale (start e).args.s (sym i.scale_fault-a.ensures ∙ i.if-a-ne0.false), omega (arith, l, (short e).0), omega (arith, l, (short e).1))
 
-returns-4 : tie.Need-returns-4
+returns-4 : tie.Need-returns
 returns-4 c =
     let k = c.before.before in
     let e = k.before.before.before in
     let g = e.before.before.before.before in
     let i = g.before in
     let a = (start e).args in
-    let out = now a.out in
+    let out = a.out.now in
     let write = ap (λ (b : List ℕ). judged_writing a.s b (length out)) (first-bytes e) ∙ judged a.f (class i) (counts e) a.s (length out) (handed (start e)) in (
-      at_code a.s a.f (length out) i.before.code-for.result i.before.code-for.ensures (formula i) (goes refused_by g.scale-fault.ensures e.before.before.before.if2.false (k.copy-judged.ensures.0 ∙ write)),
-      k.copy-judged.ensures.1 ∙ ap (λ (b : List ℕ). buffer_after k.copy-judged.result b out) (first-bytes e),
+      at_code a.s a.f (length out) i.code_for-code.result i.code_for-code.ensures (formula i) (goes refused_by g.scale_fault-a.ensures e.if-a-ne0.false (k.copy_judged.ensures.0 ∙ write)),
+      k.copy_judged.ensures.1 ∙ ap (λ (b : List ℕ). buffer_after k.copy_judged.result b out) (first-bytes e),
     )
 
-pub write-record-spec : {M : Type 1} → statement M
-write-record-spec =
+pub write_record_spec : {M : Type 1} → statement M
+write_record_spec =
     tie.close
     (tie.spec
-    (λ c κs. search needs)
-    (λ c κs. search needs)
+    (λ c κs. search rules)
+    (λ c κs. search rules)
     returns
-    (λ c κs. search needs)
-    (λ c κs. search needs)
+    (λ c κs. search rules)
+    (λ c κs. search rules)
     returns-2
     put-by-kind-requires
-    (λ c κs. search needs)
+    (λ c κs. search rules)
     returns-3
     array-share-prefix-bytes
     slice-aggregate-copy-judged
     copy-judged-requires
-    (λ c. search needs)
+    (λ c. search rules)
     returns-4)

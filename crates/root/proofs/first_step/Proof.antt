@@ -43,8 +43,8 @@ module _ (c : tie.Start) where
   sum_fits : 1 * 2 ^ half v % 2 ^ 32 + v / 2 ^ half v < 2 ^ 32
   sum_fits = omega (arith, shifted v c.requires, start_most v c.requires, quotient_fits)
 
-pub first-step-spec : {M : Type 1} → statement M
-first-step-spec =
+pub first_step_spec : {M : Type 1} → statement M
+first_step_spec =
     tie.close
     (tie.spec
     (λ c. leading_le 64 (v c))

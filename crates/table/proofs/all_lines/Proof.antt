@@ -4,6 +4,6 @@ use Rattle.table.specs.Table.{rows}
 use Rattle.table.proofs.all_lines.Statement.{statement}
 use Rattle.table.proofs.all_lines.Tie as tie
 
-pub all-lines-spec : {M : Type 1} → statement M
+pub all_lines_spec : {M : Type 1} → statement M
 unfolding rows
-all-lines-spec = tie.close (tie.spec (λ c. refl))
+all_lines_spec = tie.close (tie.spec (λ c. refl))

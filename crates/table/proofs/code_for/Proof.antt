@@ -1,26 +1,26 @@
 -- `table::code_for` meets its contract: the code's name in each arm is what the table has for the kind.
-use Rattle.whole.proofs.Basics.{needs}
+use Rattle.whole.proofs.Basics.{rules}
 use Rattle.table.specs.Table.{rows, first_row}
 use Rattle.table.specs.Codes.{code_for}
 use Rattle.table.proofs.code_for.Statement.{statement}
 use Rattle.table.proofs.code_for.Tie as tie
 
-pub code-for-spec : {M : Type 1} → statement M
+pub code_for_spec : {M : Type 1} → statement M
 unfolding code_for first_row rows
-code-for-spec =
+code_for_spec =
     tie.close
     (tie.spec
-    (λ c. search needs)
-    (λ c. search needs)
-    (λ c. search needs)
-    (λ c. search needs)
-    (λ c. search needs)
-    (λ c. search needs)
-    (λ c. search needs)
-    (λ c. rw c.enum_told.given.1)
-    (λ c. rw c.enum-told2.given.1)
-    (λ c. rw c.enum-told3.given.1)
-    (λ c. rw c.enum-told4.given.1)
-    (λ c. rw c.enum-told5.given.1)
-    (λ c. rw c.enum-told6.given.1)
-    (λ c. rw c.enum-told7.given.1))
+    (λ c. search rules)
+    (λ c. search rules)
+    (λ c. search rules)
+    (λ c. search rules)
+    (λ c. search rules)
+    (λ c. search rules)
+    (λ c. search rules)
+    (λ c. rw c.enum_told-1.given.1)
+    (λ c. rw c.enum_told-in-Rational-1.given.1)
+    (λ c. rw c.enum_told-in-Fraction-1.given.1)
+    (λ c. rw c.enum_told-in-Root-1.given.1)
+    (λ c. rw c.enum_told-in-Odd-1.given.1)
+    (λ c. rw c.enum_told-in-Even-1.given.1)
+    (λ c. rw c.enum_told-in-NoFormula-1.given.1))

@@ -1,5 +1,5 @@
 -- `table::pieces_by` meets its contract: what it adds up stays within the sum, which is at most 32 by the table's rule.
-use Rattle.whole.proofs.Basics.{refl, ◌+◌, ◌*◌, ◌≤◌, arith, needs}
+use Rattle.whole.proofs.Basics.{refl, ◌+◌, ◌*◌, ◌≤◌, arith, rules}
 use Rattle.table.specs.Table.{pieces_by}
 use Rattle.table.proofs.Rule.{few}
 use Rattle.table.proofs.pieces_by.Statement.{statement}
@@ -11,16 +11,16 @@ all c = few c.args.row c.args.p c.args.q c.requires.0 c.requires.1.0 c.requires.
 
 returns : tie.Need-returns
 unfolding pieces_by
-returns c = rw (c.before.before.times.ensures, c.times2.ensures) (refl, all c.before.before.before)
+returns c = rw (c.times.ensures, c.times-2.ensures) (refl, all c.before.before.before)
 
-pub pieces-by-spec : {M : Type 1} → statement M
-pieces-by-spec =
+pub pieces_by_spec : {M : Type 1} → statement M
+pieces_by_spec =
     tie.close
     (tie.spec
-    (λ c κs. search needs)
-    (λ c. search needs)
-    (λ c. omega (arith, c.before.times.ensures, all c.before.before))
-    (λ c κs. search needs)
-    (λ c. search needs)
-    (λ c. omega (arith, c.before.before.times.ensures, c.times2.ensures, all c.before.before.before))
+    (λ c κs. search rules)
+    (λ c. search rules)
+    (λ c. omega (arith, c.times.ensures, all c.before.before))
+    (λ c κs. search rules)
+    (λ c. search rules)
+    (λ c. omega (arith, c.times.ensures, c.times-2.ensures, all c.before.before.before))
     returns)

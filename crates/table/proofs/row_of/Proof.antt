@@ -1,5 +1,5 @@
 -- `table::row_of` meets its contract: the row is made of the line that was found, as the line is of the row.
-use Rattle.whole.proofs.Basics.{◌∙◌, ap, get_or, needs}
+use Rattle.whole.proofs.Basics.{◌∙◌, ap, get_or, rules}
 use Rattle.table.specs.Table.{row}
 use Rattle.table.specs.Lines.{field_from}
 use Rattle.table.specs.declared.Field.{Field}
@@ -17,22 +17,22 @@ rowFrom l = made l (field_from l.numbers 3) (field_from l.numbers 7) (field_from
 returns : tie.Need-returns
 returns c =
     let d = c.before.before.before in
-    let l = d.before.before.Line-of in
-    (λ i. made l.result (d.field-from.ensures i) (c.before.before.field-from2.ensures i) (c.before.field-from3.ensures i) (c.field-from4.ensures i))
+    let l = d.line_of-found in
+    (λ i. made l.result (d.field_from.ensures i) (c.field_from-2.ensures i) (c.field_from-3.ensures i) (c.field_from-4.ensures i))
     ∙ ap rowFrom l.ensures
 
-pub row-of-spec : {M : Type 1} → statement M
-row-of-spec =
+pub row_of_spec : {M : Type 1} → statement M
+row_of_spec =
     tie.close
     (tie.spec
-    (λ c κs. search needs)
-    (λ c. search needs)
-    (λ c. search needs)
-    (λ c. search needs)
-    (λ c. search needs)
-    (λ c. search needs)
-    (λ c κs. search needs)
-    (λ c κs. search needs)
-    (λ c κs. search needs)
-    (λ c κs. search needs)
+    (λ c κs. search rules)
+    (λ c. search rules)
+    (λ c. search rules)
+    (λ c. search rules)
+    (λ c. search rules)
+    (λ c. search rules)
+    (λ c κs. search rules)
+    (λ c κs. search rules)
+    (λ c κs. search rules)
+    (λ c κs. search rules)
     returns)

@@ -1,5 +1,5 @@
 -- `turn::argument` meets its contract: f is divided by a shift that rounds, what it gives is at most one, and the last digits of f tell the mark.
-use Rattle.whole.proofs.Basics.{◌≡◌, ◌∙◌, ap, ℕ, ◌-◌, ◌^◌, ◌≤◌, arith, ℤ, pos, nat_abs, w32, w64, needs}
+use Rattle.whole.proofs.Basics.{◌≡◌, ◌∙◌, ap, ℕ, ◌-◌, ◌^◌, ◌≤◌, arith, ℤ, pos, nat_abs, w32, w64, rules}
 use Rattle.std.proofs.Common.{pow_mono}
 use Rattle.whole.proofs.Diff.{n}
 use Rattle.whole.proofs.Fit.{fit, fit_abs}
@@ -14,7 +14,7 @@ use Rattle.turn.proofs.argument.Tie as tie
 -- ---- what is handed on, and what comes back
 module _ (c : tie.After-folded) where
   abbrev a : ℕ
-  a = c.before.args.angle
+  a = c.args.angle
 
   abbrev f : ℕ
   f = c.folded.result
@@ -25,41 +25,41 @@ module _ (c : tie.After-folded) where
   held-f : Held w64 (pos f) (pos f)
   held-f = arg (fit (n f) (omega (arith, f-most)))
 
-module _ (c : tie.After-rounded-shift) where
+module _ (c : tie.After-rounded_shift-r) where
   abbrev start : tie.Start
   start = c.before.before
 
-  is-argument : c.rounded-shift.result.value ≡ argument_of start.args.s start.args.angle
+  is-argument : c.rounded_shift-r.result.value ≡ argument_of start.args.s start.args.angle
   is-argument =
-      c.rounded-shift.ensures.0
-      ∙ ap (λ (z : ℤ). rounded z (2 ^ (30 - start.args.s))) (held (held-f c.before) ∙ ap pos c.before.folded.ensures)
+      c.rounded_shift-r.ensures.0
+      ∙ ap (λ (z : ℤ). rounded z (2 ^ (30 - start.args.s))) (held (held-f c.before) ∙ ap pos c.folded.ensures)
 
   size : nat_abs (argument_of start.args.s start.args.angle) ≤ 2 ^ 28
   size =
       let b = start.args.angle in
-      omega (arith, argument_size start.args.s (quarter_of b) (rest_of b) start.pre (rest_most b), pow_mono {i = start.args.s} {j = 28} start.pre.most)
+      omega (arith, argument_size start.args.s (quarter_of b) (rest_of b) start.requires (rest_most b), pow_mono {i = start.args.s} {j = 28} start.requires.most)
 
-  held-argument : Held w32 (back w64 c.rounded-shift.result.value) (argument_of start.args.s start.args.angle)
+  held-argument : Held w32 (back w64 c.rounded_shift-r.result.value) (argument_of start.args.s start.args.angle)
   held-argument = cast (known is-argument (fit_abs (omega (arith, size)))) (fit_abs (omega (arith, size)))
 
-  is-exact : whole_at (30 - start.args.s) c.rounded-shift.result.loose ≡ exact_argument start.args.s start.args.angle
-  is-exact = c.rounded-shift.ensures.1 ∙ ap (divides (2 ^ (30 - start.args.s))) (held (held-f c.before) ∙ ap pos c.before.folded.ensures)
+  is-exact : whole_at (30 - start.args.s) c.rounded_shift-r.result.loose ≡ exact_argument start.args.s start.args.angle
+  is-exact = c.rounded_shift-r.ensures.1 ∙ ap (divides (2 ^ (30 - start.args.s))) (held (held-f c.before) ∙ ap pos c.folded.ensures)
 
-rounded-shift-requires : tie.Need-rounded-shift-requires
+rounded-shift-requires : tie.Need-rounded_shift-r-requires
 rounded-shift-requires c κs =
-    let s = c.before.requires in
+    let s = c.requires in
     (omega (arith, held_nat (held-f c), f-most c), omega (arith, s.most), omega arith)
 
 returns : tie.Need-returns
-returns c = let r = c.before.before.before in (held (held-argument r), c.is_whole.ensures ∙ is-exact r)
+returns c = let r = c.before.before.before in (held (held-argument r), c.is_whole-exact.ensures ∙ is-exact r)
 
-pub argument-spec : {M : Type 1} → statement M
-argument-spec =
+pub argument_spec : {M : Type 1} → statement M
+argument_spec =
     tie.close
     (tie.spec
-    (λ c. search needs)
-    (λ c κs. search needs)
-    (λ c. search needs)
+    (λ c. search rules)
+    (λ c κs. search rules)
+    (λ c. search rules)
     rounded-shift-requires
     (λ c. fits_code (held-argument c.before.before))
     (λ c κs. omega arith)

@@ -1,5 +1,5 @@
 -- `turn::sine` meets its contract: the sine by the record that stands at the place, or the place's refusal.
-use Rattle.whole.proofs.Basics.{◌≡◌, ◌∙◌, refl, sym, List, ℕ, now, needs}
+use Rattle.whole.proofs.Basics.{◌≡◌, ◌∙◌, refl, sym, List, ℕ, rules}
 use Rattle.formula.specs.declared.Formula.{Formula}
 use Rattle.sheet.specs.Reader.{formula_place, formula_at, formula_read, FormulaStands}
 use Rattle.sheet.specs.declared.answers.Found.{Found}
@@ -19,7 +19,7 @@ use Rattle.turn.proofs.sine.Tie as tie
 -- what a formula answers at the angle's argument, and the sine by it
 module _ (d : tie.Start) where
   abbrev bytes : List ℕ
-  bytes = now d.args.s
+  bytes = d.args.s.now
 
   -- the sine by a formula whose answer at the argument is e
   abbrev signed-from : Formula → Evaluation → Evaluation
@@ -46,43 +46,43 @@ module _ (d : tie.Start) where
       by (Withheld q) f = refl
 
 -- the place that was answered, and what stands there
-module _ (c : tie.After-known-told) where
+module _ (c : tie.In-At) where
   abbrev start : tie.Start
-  start = c.before.before.before.before.before
+  start = c.before.before.before
 
-  found : formula_place start.args.places (now start.args.s) start.args.number ≡ At c.before.place.given.0.0
-  found = sym c.before.before.before.formula-place.ensures ∙ c.before.place.given.1
+  found : formula_place start.args.places start.args.s.now start.args.number ≡ At c.place.given.0.0
+  found = sym c.formula_place.ensures ∙ c.place.given.1
 
-  standing : FormulaStands start.args.places (now start.args.s) c.before.place.given.0.0
+  standing : FormulaStands start.args.places start.args.s.now c.place.given.0.0
   standing = place_standing _ _ _ _ found
 
-record-at-requires : tie.Need-record-at-requires
+record-at-requires : tie.Need-record_at-requires
 record-at-requires c κs = (standing c).reach
 
-sine-of-requires : tie.Need-sine-of-requires
-sine-of-requires c κs = let t = standing c.before in (t.scale, rw c.record-at.ensures t.here)
+sine-of-requires : tie.Need-sine_of-requires
+sine-of-requires c κs = let t = standing c.before in (t.scale, rw c.record_at.ensures t.here)
 
-returns : tie.Need-returns
+returns : tie.Need-returns-in-At
 returns c =
     let k = c.before.before in
     let d = start k in
-    let here : c.sine-of.result ≡ sine-by d (formula_at (bytes d) k.before.place.given.0.0) = rw c.before.record-at.ensures at c.sine-of.ensures in
+    let here : c.sine_of.result ≡ sine-by d (formula_at (bytes d) k.place.given.0.0) = rw c.record_at.ensures at c.sine_of.ensures in
     here ∙ when_at d.args.places (bytes d) d.args.number (sine-by d) _ (found k) ∙ as-board d
 
-returns-2 : tie.Need-returns-2
+returns-2 : tie.Need-returns-in-Refused
 returns-2 c =
     let p = c.before in
     let d = p.before.before.before.before in
-    when_refused d.args.places (bytes d) d.args.number (sine-by d) _ (sym p.before.before.formula-place.ensures ∙ p.r.given.1) ∙ as-board d
+    when_refused d.args.places (bytes d) d.args.number (sine-by d) _ (sym p.formula_place.ensures ∙ p.r.given.1) ∙ as-board d
 
-pub sine-spec : {M : Type 1} → statement M
-sine-spec =
+pub sine_spec : {M : Type 1} → statement M
+sine_spec =
     tie.close
     (tie.spec
-    (λ c κs. search needs)
-    (λ c. search needs)
+    (λ c κs. search rules)
+    (λ c. search rules)
     record-at-requires
     sine-of-requires
-    (λ c. search needs)
+    (λ c. search rules)
     returns
     returns-2)

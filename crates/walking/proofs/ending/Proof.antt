@@ -1,14 +1,14 @@
 -- `walking::ending` meets its contract: a way out for each test of the definition.
-use Rattle.whole.proofs.Basics.{◌∙◌, needs, lt-ltb, le-ltb}
+use Rattle.whole.proofs.Basics.{◌∙◌, rules, lt-ltb, le-ltb}
 use Rattle.walking.specs.Walking.{ending}
 use Rattle.walking.proofs.ending.Statement.{statement}
 use Rattle.walking.proofs.ending.Tie as tie
 
-pub ending-spec : {M : Type 1} → statement M
+pub ending_spec : {M : Type 1} → statement M
 unfolding ending
-ending-spec =
+ending_spec =
     tie.close
     (tie.spec
-    (λ c κs. search needs)
-    (λ c. c.refused.ensures ∙ simp (lt-ltb _ _ c.before.if1.true))
-    (λ c. simp (le-ltb _ _ c.if1.false)))
+    (λ c κs. search rules)
+    (λ c. c.refused.ensures ∙ simp (lt-ltb _ _ c.if-place-n.true))
+    (λ c. simp (le-ltb _ _ c.if-place-n.false)))

@@ -4,6 +4,6 @@ use Rattle.walking.specs.Walking.{found_by}
 use Rattle.walking.proofs.found_by.Statement.{statement}
 use Rattle.walking.proofs.found_by.Tie as tie
 
-pub found-by-spec : {M : Type 1} → statement M
+pub found_by_spec : {M : Type 1} → statement M
 unfolding found_by
-found-by-spec = tie.close (tie.spec (λ c. simp (eq-eqb _ _ c.if1.true)) (λ c. simp (ne_eqb _ _ c.if1.false)))
+found_by_spec = tie.close (tie.spec (λ c. simp (eq-eqb _ _ c.if-number-w.true)) (λ c. simp (ne_eqb _ _ c.if-number-w.false)))

@@ -1,5 +1,5 @@
 -- `walking::room_for` meets its contract, at 0 and above it.
-use Rattle.whole.proofs.Basics.{◌≡◌, ◌∙◌, refl, sym, ap, ℕ, suc, zero, needs}
+use Rattle.whole.proofs.Basics.{◌≡◌, ◌∙◌, refl, sym, ap, ℕ, suc, zero, rules}
 use Rattle.table.specs.declared.Row.{Row}
 use Rattle.table.specs.Codes.{start_row, the_start}
 use Rattle.walking.specs.Walking.{room_for}
@@ -10,11 +10,11 @@ some : (n : ℕ) → ¬ (n ≡ 0) → start_row.count.most ≡ room_for n
 some zero h = absurd (h refl)
 some (suc n) h = refl
 
-returns : tie.Need-returns
-returns c = sym (ap room_for c.if1.true)
+returns : tie.Need-returns-then-from-eq0
+returns c = sym (ap room_for c.if-from-eq0.true)
 
-returns-2 : tie.Need-returns-2
-returns-2 c = ap (λ (r : Row). r.count.most) (c.before.row_of.ensures ∙ the_start) ∙ some _ c.before.before.if1.false
+returns-2 : tie.Need-returns
+returns-2 c = ap (λ (r : Row). r.count.most) (c.row_of-start.ensures ∙ the_start) ∙ some _ c.if-from-eq0.false
 
-pub room-for-spec : {M : Type 1} → statement M
-room-for-spec = tie.close (tie.spec returns (λ c κs. search needs) returns-2)
+pub room_for_spec : {M : Type 1} → statement M
+room_for_spec = tie.close (tie.spec returns (λ c κs. search rules) returns-2)

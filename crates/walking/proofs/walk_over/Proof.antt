@@ -1,5 +1,5 @@
 -- `walking::walk_over` meets its contract. The invariant is `Going`: the whole answer is that of the walk from here on.
-use Rattle.whole.proofs.Basics.{◌≡◌, ◌∙◌, refl, sym, ap, false, List, ℕ, suc, zero, ◌+◌, ◌-◌, ◌≤◌, arith, eqb, length, now, needs}
+use Rattle.whole.proofs.Basics.{◌≡◌, ◌∙◌, refl, sym, ap, false, List, ℕ, suc, zero, ◌+◌, ◌-◌, ◌≤◌, arith, eqb, length, rules}
 use mathlib.Core.Logic.{⊎_elim}
 use Rattle.layout.specs.Fields.{code_of}
 use Rattle.faults.proofs.Frames.{reaches}
@@ -10,16 +10,16 @@ use Rattle.walking.proofs.Going.{Going, starts, rest_is, Fine, here, Past, frame
 use Rattle.walking.proofs.walk_over.Statement.{statement}
 use Rattle.walking.proofs.walk_over.Tie as tie
 
-abbrev invariant-loop : tie.invariant-loop
+abbrev invariant-loop : tie.invariant-loop-w
 invariant-loop bytes from asked s w₀ w = Going s bytes from asked w
 
-abbrev decreases-loop : tie.decreases-loop
+abbrev decreases-loop : tie.decreases-loop-w
 decreases-loop bytes from asked s w₀ w = from + length bytes - w.at
 
-loop-holds : tie.Need-loop-init invariant-loop decreases-loop
+loop-holds : tie.Need-loop-w-init invariant-loop decreases-loop
 loop-holds c =
     let d = c.before.before in
-    rw c.begin.ensures (starts d.args.s _ d.args.from d.args.asked d.requires)
+    rw c.begin-w.ensures (starts d.args.s _ d.args.from d.args.asked d.requires)
 
 -- ---- whether a run is done, by the two tests
 sheet : (bytes : List ℕ) (from : ℕ) (w : Walk) → from ≡ 0 → run_done bytes from w ≡ false
@@ -29,113 +29,113 @@ run : (bytes : List ℕ) (from : ℕ) (w : Walk) → ¬ (from ≡ 0) → run_don
 run bytes zero w h = absurd (h refl)
 run bytes (suc n) w h = refl
 
-sub-if2 : tie.Need-overflow-sub-if2 invariant-loop decreases-loop
-sub-if2 c = omega (arith, c.before.before.loop.invariant.standing.begun)
+sub-if2 : tie.Need-overflow_sub-w invariant-loop decreases-loop
+sub-if2 c = omega (arith, c.loop-w.invariant.standing.begun)
 
-returns : tie.Need-returns invariant-loop decreases-loop
+returns : tie.Need-returns-then-w-from invariant-loop decreases-loop
 returns c =
     let l = c.before.before.before in
-    let a = l.before.before.before.args in
-    sym (rest_is l.loop.invariant ∙ walk_done a.s _ a.from l.loop.w _ (run _ a.from l.loop.w c.before.before.if1.true ∙ c.if2.true))
+    let a = l.args in
+    sym (rest_is l.loop-w.invariant ∙ walk_done a.s _ a.from l.loop-w.w _ (run _ a.from l.loop-w.w c.if-from-ne0.true ∙ c.if-w-from.true))
 
 -- ---- the run is not done, or there is none
-module _ (c : tie.Joined1 invariant-loop decreases-loop) where
+module _ (c : tie.Joined-else-from-ne0 invariant-loop decreases-loop) where
   abbrev start : tie.Start invariant-loop decreases-loop
   start = c.before.before.before.before
 
   abbrev w : Walk
-  w = c.before.loop.w
+  w = c.loop-w.w
 
-  abbrev good : Going start.args.s (now start.args.bytes) start.args.from start.args.asked w
-  good = c.before.loop.invariant
+  abbrev good : Going start.args.s start.args.bytes.now start.args.from start.args.asked w
+  good = c.loop-w.invariant
 
-  not_done : run_done (now start.args.bytes) start.args.from w ≡ false
+  not_done : run_done start.args.bytes.now start.args.from w ≡ false
   not_done =
-      ⊎_elim (λ t. run _ start.args.from w t.0.taken ∙ t.2.left) (λ t. sheet _ start.args.from w t.left) c.if1.branch
+      ⊎_elim (λ t. run _ start.args.from w t.0.true ∙ t.2.left) (λ t. sheet _ start.args.from w t.left) c.if-from-ne0.branch
 
-fault-at-requires : tie.Need-fault-at-requires invariant-loop decreases-loop
+fault-at-requires : tie.Need-fault_at-f-requires invariant-loop decreases-loop
 fault-at-requires c κs = ((good c).standing, (good c).scale)
 
-returns-2 : tie.Need-returns-2 invariant-loop decreases-loop
+returns-2 : tie.Need-returns-then-f-ne0 invariant-loop decreases-loop
 returns-2 c =
     let f = c.before.before in
     let e = f.before in
     let a = (start e).args in
-    c.refused.ensures ∙ sym (rest_is (good e) ∙ walk_broken a.s (now a.bytes) a.from (w e) _ (not_done e) f.fault-at.ensures c.before.if3.true)
+    c.refused.ensures ∙ sym (rest_is (good e) ∙ walk_broken a.s a.bytes.now a.from (w e) _ (not_done e) f.fault_at-f.ensures c.if-f-ne0.true)
 
 -- ---- and there is no fault
-fine : (c : tie.Else3 invariant-loop decreases-loop) →
+fine : (c : tie.Else-f-ne0 invariant-loop decreases-loop) →
     let e = c.before.before in
     let a = (start e).args in
-    Fine a.s (now a.bytes) a.from a.asked (w e)
+    Fine a.s a.bytes.now a.from a.asked (w e)
 fine c =
     let e = c.before.before in
-    record { going = good e; not_done = not_done e; no_fault = sym c.before.fault-at.ensures ∙ c.if3.false }
+    record { going = good e; not_done = not_done e; no_fault = sym c.fault_at-f.ensures ∙ c.if-f-ne0.false }
 
-sub-record-at : tie.Need-overflow-sub-record-at invariant-loop decreases-loop
+sub-record-at : tie.Need-overflow_sub-w-in-loop-w invariant-loop decreases-loop
 sub-record-at c = omega (arith, (fine c.before).going.standing.begun)
 
-record-at-requires : tie.Need-record-at-requires invariant-loop decreases-loop
+record-at-requires : tie.Need-record_at-b-requires invariant-loop decreases-loop
 record-at-requires c κs = reaches _ _ (frame (fine c.before))
 
 -- the record that was cut out, and its code
-long-enough : (c : tie.After-record-at invariant-loop decreases-loop) → 8 ≤ length (now c.record-at.result)
-long-enough c = let f = fine c.before.before in rw c.record-at.ensures (omega (arith, (frame f).least, long f))
+long-enough : (c : tie.After-record_at-b invariant-loop decreases-loop) → 8 ≤ length c.record_at-b.result.now
+long-enough c = let f = fine c.before.before in rw c.record_at-b.ensures (omega (arith, (frame f).least, long f))
 
 code_is : (c : tie.After-code invariant-loop decreases-loop) → code_of (here (fine c.before.before.before)) ≡ c.code.result
-code_is c = sym (rw c.before.record-at.ensures at c.code.ensures)
+code_is c = sym (rw c.record_at-b.ensures at c.code.ensures)
 
 -- past a start
-opened : (c : tie.After-after-start invariant-loop decreases-loop) → Past (fine c.before.before.before.before.before) c.after-start.result
+opened : (c : tie.After-after_start-w invariant-loop decreases-loop) → Past (fine c.before.before.before.before.before) c.after_start-w.result
 opened c =
     let k = c.before.before in
-    past_start (fine k.before.before.before) (rw k.before.record-at.ensures at c.after-start.ensures) (code_is k ∙ c.before.match.keys1)
+    past_start (fine k.before.before.before) (rw k.record_at-b.ensures at c.after_start-w.ensures) (code_is k ∙ c.in-1.keys1)
 
-add-ending : tie.Need-overflow-add-ending invariant-loop decreases-loop
+add-ending : tie.Need-overflow_add-w invariant-loop decreases-loop
 add-ending c =
     let r = c.before.before.before in
     let e = r.before.before in
     let f = fine e in
     let g = f.going in
-    record { fits = omega (arith, ap length r.record-at.ensures, long f, (frame f).most, g.standing.within, g.near, (start e.before.before).good) }
+    record { fits = omega (arith, ap length r.record_at-b.ensures, long f, (frame f).most, g.standing.within, g.near, (start e.before.before).good) }
 
-returns-3 : tie.Need-returns-3 invariant-loop decreases-loop
+returns-3 : tie.Need-returns-in-65535 invariant-loop decreases-loop
 returns-3 c =
     let k = c.before.before.before in
-    rw k.before.record-at.ensures at c.ending.ensures ∙ sym (at_end (fine k.before.before.before) (code_is k ∙ c.before.before.match.keys2))
+    rw k.record_at-b.ensures at c.ending.ensures ∙ sym (at_end (fine k.before.before.before) (code_is k ∙ c.in-1.keys2))
 
 -- past any other, which is a formula
-moved : (c : tie.At-match-rest invariant-loop decreases-loop) {v : Walk} →
+moved : (c : tie.In_default invariant-loop decreases-loop) {v : Walk} →
     let e = c.before.before.before.before in
     v ≡ after_formula (here (fine e)) (w e.before.before) → Past (fine e) v
 moved c q =
-    let n = c.match.rest in
+    let n = c.in-1.rest in
     let k = code_is c.before in
     past_formula (fine c.before.before.before.before) q (λ z. n.0.1 (sym k ∙ z)) (λ z. n.1 (sym k ∙ z))
 
-after-formula-requires : tie.Need-after-formula-requires invariant-loop decreases-loop
+after-formula-requires : tie.Need-after_formula-w-requires invariant-loop decreases-loop
 after-formula-requires c κs =
     let r = c.before.before in
     let e = r.before.before.before.before in
     let g = good e in
     let m = (moved c refl).0 in
-    (long-enough r, omega (arith, ap length r.record-at.ensures, m.standing.within, m.near, (start e).well-formed), omega (arith, g.seen, g.count))
+    (long-enough r, omega (arith, ap length r.record_at-b.ensures, m.standing.within, m.near, (start e).well-formed), omega (arith, g.seen, g.count))
 
-behind : (c : tie.After-after-formula invariant-loop decreases-loop) → Past (fine c.before.before.before.before.before) c.after-formula.result
-behind c = moved c.before (rw c.before.before.before.record-at.ensures at c.after-formula.ensures)
+behind : (c : tie.After-after_formula-w invariant-loop decreases-loop) → Past (fine c.before.before.before.before.before) c.after_formula-w.result
+behind c = moved c.before (rw c.record_at-b.ensures at c.after_formula-w.ensures)
 
-pub walk-over-spec : {M : Type 1} → statement M
-walk-over-spec =
+pub walk_over_spec : {M : Type 1} → statement M
+walk_over_spec =
     tie.close
     (tie.spec
     invariant-loop
     decreases-loop
-    (λ c κs. search needs)
+    (λ c κs. search rules)
     loop-holds
     sub-if2
     returns
     fault-at-requires
-    (λ c κs. search needs)
+    (λ c κs. search rules)
     returns-2
     sub-record-at
     record-at-requires
@@ -144,7 +144,7 @@ walk-over-spec =
     (λ c. (opened c).1)
     (λ c. (opened c).0)
     add-ending
-    (λ c κs. search needs)
+    (λ c κs. search rules)
     returns-3
     after-formula-requires
     (λ c. (behind c).1)

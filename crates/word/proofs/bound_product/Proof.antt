@@ -1,5 +1,5 @@
 -- `word::bound_product` meets its contract: the sum that rounds the product up fits.
-use Rattle.whole.proofs.Basics.{◌≤◌, ◌*◌, arith, needs}
+use Rattle.whole.proofs.Basics.{◌≤◌, ◌*◌, arith, rules}
 use native.Mathlib.Nat.{mul-le-mul}
 use lib.Pow.{pow_pos, pow_mono}
 use Rattle.word.specs.Rounded.{rounded_up}
@@ -12,18 +12,18 @@ n-most c =
     let b : c.args.b ≤ 4294967295 = omega (arith, c.ranges.b.fits) in
     mul-le-mul a b
 
-sub-result : tie.Need-overflow-sub-result
-sub-result c = omega (arith, c.power-of-two.ensures, pow_pos c.before.before.args.s)
+sub-result : tie.Need-overflow_sub-result
+sub-result c = omega (arith, c.power_of_two.ensures, pow_pos c.before.before.args.s)
 
-add-result : tie.Need-overflow-add-result
+add-result : tie.Need-overflow_add-result
 add-result c =
     let d = c.before.before in
-    record { fits = omega (arith, c.before.long-times.ensures, n-most d, c.power-of-two.ensures, pow_mono {i = d.args.s} {j = 28} d.requires.0.most) }
+    record { fits = omega (arith, c.before.long_times-n.ensures, n-most d, c.power_of_two.ensures, pow_mono {i = d.args.s} {j = 28} d.requires.0.most) }
 
 returns : tie.Need-returns
 unfolding rounded_up
-returns c = rw (c.before.long-times.ensures, c.power-of-two.ensures)
+returns c = rw (c.before.long_times-n.ensures, c.power_of_two.ensures)
 
-pub bound-product-spec : {M : Type 1} → statement M
-bound-product-spec =
-    tie.close (tie.spec (λ c κs. search needs) (λ c κs. search needs) sub-result add-result (λ c. search needs) returns)
+pub bound_product_spec : {M : Type 1} → statement M
+bound_product_spec =
+    tie.close (tie.spec (λ c κs. search rules) (λ c κs. search rules) sub-result add-result (λ c. search rules) returns)

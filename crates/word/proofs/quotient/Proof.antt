@@ -1,6 +1,6 @@
 -- `word::quotient` meets its contract: twice the scaled dividend, with the divisor added away from zero, is what `divided_is` speaks of, `left_half` and
 -- `half_left` say what the remainder tells, and nothing wraps.
-use Rattle.whole.proofs.Basics.{◌≡◌, ◌∙◌, sym, ap, ap₂, Bool, not, ℕ, ◌*◌, ◌%◌, ◌^◌, ◌<◌, arith, ℤ, pos, nat_abs, ◌+ℤ◌, ◌*ℤ◌, w32, w64, to_z, of_z, lt_z, needs, eq-eqb, ne_eqb}
+use Rattle.whole.proofs.Basics.{◌≡◌, ◌∙◌, sym, ap, ap₂, Bool, not, ℕ, ◌*◌, ◌%◌, ◌^◌, ◌<◌, arith, ℤ, pos, nat_abs, ◌+ℤ◌, ◌*ℤ◌, w32, w64, to_z, of_z, lt_z, rules, eq-eqb, ne_eqb}
 use mathlib.Core.Bool.{beq}
 use lib.Pow.{pow_pos}
 use lib.Signed.{quot_z, rem_z}
@@ -67,64 +67,64 @@ module _ (c : tie.Start) where
   held-divisor : Held w64 (back w64 (back w32 d) +ℤ back w64 (back w32 d)) (d +ℤ d)
   held-divisor = plus held-d held-d (fit_abs (omega (arith, abs_add d d, c.requires.2)))
 
-module _ (c : tie.After-with-sign) where
+module _ (c : tie.After-with_sign-half) where
   abbrev start : tie.Start
   start = c.before
 
   sign_is : not (beq (lt_z (back w32 (a start)) (pos 0)) (lt_z (back w32 (d start)) (pos 0))) ≡ sign start
   sign_is =
       ap₂ (λ (x y : Bool). not (beq x y))
-      (below_read start.fits.a ∙ below_scaled (a start) (u start) (pow_pos start.args.s))
-      (below_read start.fits.d)
+      (below_read start.ranges.a ∙ below_scaled (a start) (u start) (pow_pos start.args.s))
+      (below_read start.ranges.d)
 
-  held-half : Held w64 c.with-sign.result (half start)
-  held-half = known (c.with-sign.ensures ∙ ap₂ with_sign sign_is (held (held-d start))) (fit_abs (omega (arith, half-most start)))
+  held-half : Held w64 c.with_sign-half.result (half start)
+  held-half = known (c.with_sign-half.ensures ∙ ap₂ with_sign sign_is (held (held-d start))) (fit_abs (omega (arith, half-most start)))
 
-  held-sum : Held w64 (back w64 (twice start) +ℤ back w64 c.with-sign.result) (sum start)
+  held-sum : Held w64 (back w64 (twice start) +ℤ back w64 c.with_sign-half.result) (sum start)
   held-sum = plus (held-twice start) held-half (fit_abs (omega (arith, sum-most start)))
 
-  held-quotient : Held w64 (quot_z (back w64 (back w64 (twice start) +ℤ back w64 c.with-sign.result)) (back w64 (back w64 (back w32 (d start)) +ℤ back w64 (back w32 (d start))))) (quot_z (sum start) (d start +ℤ d start))
+  held-quotient : Held w64 (quot_z (back w64 (back w64 (twice start) +ℤ back w64 c.with_sign-half.result)) (back w64 (back w64 (back w32 (d start)) +ℤ back w64 (back w32 (d start))))) (quot_z (sum start) (d start +ℤ d start))
   held-quotient = quot held-sum (held-divisor start) (quot_fits (sum start) (d start +ℤ d start) (omega (arith, sum-most start)))
 
   -- what is left over, and that the test tells whether it is the half alone
   abbrev left : ℤ
   left = rem_z (sum start) (d start +ℤ d start)
 
-  held-left : Held w64 (rem_z (back w64 (back w64 (twice start) +ℤ back w64 c.with-sign.result)) (back w64 (back w64 (back w32 (d start)) +ℤ back w64 (back w32 (d start))))) left
+  held-left : Held w64 (rem_z (back w64 (back w64 (twice start) +ℤ back w64 c.with_sign-half.result)) (back w64 (back w64 (back w32 (d start)) +ℤ back w64 (back w32 (d start))))) left
   held-left = remainder held-sum (held-divisor start)
 
-  same_left : of_z w64 (rem_z (back w64 (back w64 (twice start) +ℤ back w64 c.with-sign.result)) (back w64 (back w64 (back w32 (d start)) +ℤ back w64 (back w32 (d start))))) ≡ of_z w64 c.with-sign.result → left ≡ half start
+  same_left : of_z w64 (rem_z (back w64 (back w64 (twice start) +ℤ back w64 c.with_sign-half.result)) (back w64 (back w64 (back w32 (d start)) +ℤ back w64 (back w32 (d start))))) ≡ of_z w64 c.with_sign-half.result → left ≡ half start
   same_left e = sym (held held-left) ∙ ap (to_z w64) e ∙ held held-half
 
-  left-same : left ≡ half start → of_z w64 (rem_z (back w64 (back w64 (twice start) +ℤ back w64 c.with-sign.result)) (back w64 (back w64 (back w32 (d start)) +ℤ back w64 (back w32 (d start))))) ≡ of_z w64 c.with-sign.result
+  left-same : left ≡ half start → of_z w64 (rem_z (back w64 (back w64 (twice start) +ℤ back w64 c.with_sign-half.result)) (back w64 (back w64 (back w32 (d start)) +ℤ back w64 (back w32 (d start))))) ≡ of_z w64 c.with_sign-half.result
   left-same e = ap (of_z w64) (held-left.eq ∙ e ∙ sym held-half.eq)
 
 -- ---- the needs
-div_value : tie.Need-nonzero-div-value
+div_value : tie.Need-nonzero_div-value
 div_value c =
     let s = start c in
-    (divisor (held-divisor s) (omega (arith, size (v (d s) ⊕ v (d s)), size (v (d s)), s.pre.3)), fits_code (held-quotient c))
+    (divisor (held-divisor s) (omega (arith, size (v (d s) ⊕ v (d s)), size (v (d s)), s.requires.3)), fits_code (held-quotient c))
 
-returns : tie.Need-returns
+returns : tie.Need-returns-then-n-by
 returns c =
     let b = c.before in
     let k = start b in
-    (held (held-quotient b) ∙ divided_is (m k) (d k), whole_none k.args.s ∙ sym (left_half (m k) (d k) (same_left b c.if1.true)))
+    (held (held-quotient b) ∙ divided_is (m k) (d k), whole_none k.args.s ∙ sym (left_half (m k) (d k) (same_left b c.if-n-by.true)))
 
-returns-2 : tie.Need-returns-2
+returns-2 : tie.Need-returns-else-n-by
 returns-2 c =
     let b = c.before in
     let k = start b in
     let left = nat_abs (m k) % nat_abs (d k) in
-    (held (held-quotient b) ∙ divided_is (m k) (d k), whole_some k.args.s (omega (arith, k.pre.0.least)) ∙ sym (ne_eqb left 0 (λ e. c.if1.false (left-same b (half_left (m k) (d k) k.pre.3 (eq-eqb left 0 e))))))
+    (held (held-quotient b) ∙ divided_is (m k) (d k), whole_some k.args.s (omega (arith, k.requires.0.least)) ∙ sym (ne_eqb left 0 (λ e. c.if-n-by.false (left-same b (half_left (m k) (d k) k.requires.3 (eq-eqb left 0 e))))))
 
-pub quotient-spec : {M : Type 1} → statement M
-quotient-spec =
+pub quotient_spec : {M : Type 1} → statement M
+quotient_spec =
     tie.close
     (tie.spec
     (λ c. fits_code (held-a c))
-    (λ c. search needs)
-    (λ c. search needs)
+    (λ c. search rules)
+    (λ c. search rules)
     (λ c. fits_code (held-d c))
     (λ c κs. omega (arith, held_nat (held-d c), c.requires.2))
     (λ c. fits_code (held-twice (start c)))

@@ -4,9 +4,9 @@ use Rattle.faults.proofs.Lengths.{bare_length}
 use Rattle.faults.proofs.framing.bare_fault.Statement.{statement}
 use Rattle.faults.proofs.framing.bare_fault.Tie as tie
 
-pub bare-fault-spec : {M : Type 1} → statement M
-bare-fault-spec =
+pub bare_fault_spec : {M : Type 1} → statement M
+bare_fault_spec =
     tie.close
     (tie.spec
-    (λ c. sym (bare_length _ _ c.before.before.requires ∙ ap (λ (t : Bool). cond t 0 2) (ne_eqb _ _ c.if1.true)))
-    (λ c. sym (bare_length _ _ c.before.before.requires ∙ ap (λ (t : Bool). cond t 0 2) (eq-eqb _ _ c.if1.false))))
+    (λ c. sym (bare_length _ _ c.requires ∙ ap (λ (t : Bool). cond t 0 2) (ne_eqb _ _ c.if-b-row.true)))
+    (λ c. sym (bare_length _ _ c.requires ∙ ap (λ (t : Bool). cond t 0 2) (eq-eqb _ _ c.if-b-row.false))))

@@ -4,11 +4,11 @@ use Rattle.faults.specs.Faults.{end_fault}
 use Rattle.faults.proofs.framing.count_fault.Statement.{statement}
 use Rattle.faults.proofs.framing.count_fault.Tie as tie
 
-pub count-fault-spec : {M : Type 1} → statement M
+pub count_fault_spec : {M : Type 1} → statement M
 unfolding end_fault
-count-fault-spec =
+count_fault_spec =
     tie.close
     (tie.spec
-    (λ c. simp (ne_eqb _ _ c.if1.true))
-    (λ c. simp (eq-eqb _ _ c.before.if1.false, ne_eqb _ _ c.if2.true))
-    (λ c. simp (eq-eqb _ _ c.before.if1.false, eq-eqb _ _ c.if2.false)))
+    (λ c. simp (ne_eqb _ _ c.if-seen-count.true))
+    (λ c. simp (eq-eqb _ _ c.if-seen-count.false, ne_eqb _ _ c.if-c-count.true))
+    (λ c. simp (eq-eqb _ _ c.if-seen-count.false, eq-eqb _ _ c.if-c-count.false)))

@@ -1,5 +1,5 @@
 -- `faults::framing::end_fault` meets its contract: the length of a row without counts, then the two counts.
-use Rattle.whole.proofs.Basics.{needs}
+use Rattle.whole.proofs.Basics.{rules}
 use Rattle.table.specs.Table.{rows, first_row, row_of}
 use Rattle.table.specs.Codes.{the_end}
 use Rattle.table.proofs.Rule.{ruled}
@@ -7,26 +7,26 @@ use Rattle.faults.proofs.Chain.{stop, pass}
 use Rattle.faults.proofs.framing.end_fault.Statement.{statement}
 use Rattle.faults.proofs.framing.end_fault.Tie as tie
 
-bare-fault-requires : tie.Need-bare-fault-requires
+bare-fault-requires : tie.Need-bare_fault-f-requires
 unfolding row_of first_row rows
 bare-fault-requires c κs = rw c.row_of.ensures ((ruled 0xffff).bare tt)
 
-returns : tie.Need-returns
-returns c = stop _ (rw (c.before.before.row_of.ensures, the_end) at c.before.bare-fault.ensures) c.if1.true
+returns : tie.Need-returns-then-f-ne0
+returns c = stop _ (rw (c.row_of.ensures, the_end) at c.bare_fault-f.ensures) c.if-f-ne0.true
 
-returns-2 : tie.Need-returns-2
+returns-2 : tie.Need-returns
 returns-2 c =
     let i = c.before.before in
     let w = i.before.before in
-    pass (rw (w.row_of.ensures, the_end) at i.before.bare-fault.ensures) i.if1.false (rw c.before.count.ensures at c.count-fault.ensures)
+    pass (rw (w.row_of.ensures, the_end) at i.bare_fault-f.ensures) i.if-f-ne0.false (rw c.count.ensures at c.count_fault.ensures)
 
-pub end-fault-spec : {M : Type 1} → statement M
-end-fault-spec =
+pub end_fault_spec : {M : Type 1} → statement M
+end_fault_spec =
     tie.close
     (tie.spec
-    (λ c κs. search needs)
+    (λ c κs. search rules)
     bare-fault-requires
     returns
-    (λ c κs. search needs)
-    (λ c κs. search needs)
+    (λ c κs. search rules)
+    (λ c κs. search rules)
     returns-2)

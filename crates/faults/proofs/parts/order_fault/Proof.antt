@@ -4,11 +4,11 @@ use Rattle.faults.specs.Faults.{order_fault}
 use Rattle.faults.proofs.parts.order_fault.Statement.{statement}
 use Rattle.faults.proofs.parts.order_fault.Tie as tie
 
-pub order-fault-spec : {M : Type 1} → statement M
+pub order_fault_spec : {M : Type 1} → statement M
 unfolding order_fault
-order-fault-spec =
+order_fault_spec =
     tie.close
     (tie.spec
-    (λ c. simp (eq-eqb _ _ c.if1.true))
-    (λ c. simp (ne_eqb _ _ c.before.if1.false, lt-ltb _ _ c.if2.true))
-    (λ c. simp (ne_eqb _ _ c.before.if1.false, le-ltb _ _ c.if2.false)))
+    (λ c. simp (eq-eqb _ _ c.if-seen-count.true))
+    (λ c. simp (ne_eqb _ _ c.if-seen-count.false, lt-ltb _ _ c.if-number-next.true))
+    (λ c. simp (ne_eqb _ _ c.if-seen-count.false, le-ltb _ _ c.if-number-next.false)))

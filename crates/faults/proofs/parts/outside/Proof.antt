@@ -4,11 +4,11 @@ use Rattle.faults.specs.Faults.{outside}
 use Rattle.faults.proofs.parts.outside.Statement.{statement}
 use Rattle.faults.proofs.parts.outside.Tie as tie
 
-pub outside-spec : {M : Type 1} → statement M
+pub outside_spec : {M : Type 1} → statement M
 unfolding outside
-outside-spec =
+outside_spec =
     tie.close
     (tie.spec
-    (λ c. simp (lt-ltb _ _ c.if1.true))
-    (λ c. simp (le-ltb _ _ c.before.before.if1.false, lt-ltb _ _ c.if2.true))
-    (λ c. simp (le-ltb _ _ c.before.before.if1.false, le-ltb _ _ c.if2.false)))
+    (λ c. simp (lt-ltb _ _ c.if-n-field.true))
+    (λ c. simp (le-ltb _ _ c.if-n-field.false, lt-ltb _ _ c.if-field-n.true))
+    (λ c. simp (le-ltb _ _ c.if-n-field.false, le-ltb _ _ c.if-field-n.false)))

@@ -1,14 +1,14 @@
 -- `reader::formula_in` meets its contract: the row is that of the record's code, and the record is complete.
-use Rattle.whole.proofs.Basics.{needs}
+use Rattle.whole.proofs.Basics.{rules}
 use Rattle.sheet.proofs.Words.{complete_record}
 use Rattle.sheet.proofs.reader.formula_in.Statement.{statement}
 use Rattle.sheet.proofs.reader.formula_in.Tie as tie
 
-formula-of-requires : tie.Need-formula-of-requires
-formula-of-requires c κs = rw (c.row_of.ensures, c.before.code.ensures) (complete_record _ c.before.before.before.requires)
+formula-of-requires : tie.Need-formula_of-requires
+formula-of-requires c κs = rw (c.row_of.ensures, c.code.ensures) (complete_record _ c.requires)
 
 returns : tie.Need-returns
-returns c = rw (c.before.row_of.ensures, c.before.before.code.ensures) at c.formula-of.ensures
+returns c = rw (c.row_of.ensures, c.code.ensures) at c.formula_of.ensures
 
-pub formula-in-spec : {M : Type 1} → statement M
-formula-in-spec = tie.close (tie.spec (λ c κs. search needs) (λ c κs. search needs) formula-of-requires returns)
+pub formula_in_spec : {M : Type 1} → statement M
+formula_in_spec = tie.close (tie.spec (λ c κs. search rules) (λ c κs. search rules) formula-of-requires returns)

@@ -9,5 +9,5 @@ returns : tie.Need-returns
 unfolding no_formula padded
 returns c = refl
 
-pub no-formula-spec : {M : Type 1} → statement M
-no-formula-spec = tie.close (tie.spec returns)
+pub no_formula_spec : {M : Type 1} → statement M
+no_formula_spec = tie.close (tie.spec returns)

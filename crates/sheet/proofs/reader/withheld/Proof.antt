@@ -1,11 +1,11 @@
 -- `reader::withheld` meets its contract: the refusal beside no formula.
-use Rattle.whole.proofs.Basics.{ap, needs}
+use Rattle.whole.proofs.Basics.{ap, rules}
 use Rattle.sheet.specs.Reader.{reading}
 use Rattle.sheet.proofs.reader.withheld.Statement.{statement}
 use Rattle.sheet.proofs.reader.withheld.Tie as tie
 
 returns : tie.Need-returns
-returns c = ap (reading _) c.no-formula.ensures
+returns c = ap (reading _) c.no_formula.ensures
 
-pub withheld-spec : {M : Type 1} → statement M
-withheld-spec = tie.close (tie.spec (λ c κs. search needs) returns)
+pub withheld_spec : {M : Type 1} → statement M
+withheld_spec = tie.close (tie.spec (λ c κs. search rules) returns)
