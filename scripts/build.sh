@@ -10,8 +10,8 @@ version() { sed -n 's/^#define VP_VERSION_STRING "\(.*\)"$/\1/p' "$root/include/
 # The name that programs have the shared library by; it moves with the version's first number.
 shared_name() { echo "${shared##*/}.$(version | cut -d. -f1)"; }
 
-checksums() { # NAME...: a line for each, and for each file below a folder
-    find "$@" -name must-fail -prune -o -type f -print0 | LC_ALL=C sort -z | xargs -0 sha256sum
+checksums() { # NAME...: a line for each, and for each file below a folder, but for what is no source
+    find "$@" \( -name must-fail -o -name out \) -prune -o -type f -print0 | LC_ALL=C sort -z | xargs -0 sha256sum
 }
 
 source_checksums() { (cd "$root" && checksums crates crates.txt command include library scripts); }
@@ -22,39 +22,40 @@ is_built() {
     [ -f "$root/$own/built" ] && { source_checksums && product_checksums; } 2>/dev/null | cmp -s - "$root/$own/built"
 }
 
-# The crates that some stand on, and they themselves, one a line.
+# The crates that some stand on, and they themselves, one a line, in the order of crates.txt: the lowest first.
 crates_below() { # CRATE...
     local -A below=() seen=()
-    local name rest
-    while IFS=': ' read -r name rest; do below[$name]=$rest; done < <(sed 's/#.*//; /^[ \t]*$/d' crates.txt)
+    local name rest order=()
+    while IFS=': ' read -r name rest; do
+        below[$name]=${rest#staticlib: }
+        order+=("$name")
+    done < <(sed 's/#.*//; /^[ \t]*$/d' crates.txt)
     while [ $# -gt 0 ]; do
         name=$1
         shift
         [ -n "${below[$name]+listed}" ] && [ -z "${seen[$name]-}" ] || continue
         seen[$name]=yes
-        echo "$name"
         # shellcheck disable=SC2086
         set -- "$@" ${below[$name]}
     done
+    for name in "${order[@]}"; do if [ -n "${seen[$name]-}" ]; then echo "$name"; fi; done
 }
 
-# Keeps what rt says, and tells of each crate when it is proved.
-progress() { # CRATES-IN-ALL
-    local count=0 line
-    while IFS= read -r line; do
-        printf '%s\n' "$line"
-        if [[ $line =~ ^rt:\ ([A-Za-z0-9_]+)\ proved\ \( ]]; then tell "$((count += 1)) of $1: ${BASH_REMATCH[1]} proved"; fi
-    done >"$own/log"
+# Proves a crate and has rt compile it: a program is run by that, on no input, and otherwise a library comes of it.
+prove_crate() { # CRATE
+    if [ -f "crates/$1/src/main.rt" ]; then (cd "crates/$1" && rt run); else (cd "crates/$1" && rt lib); fi
 }
 
-# Proves the crates, and has rt compile the listing program and the library's archive.
+# Proves the crates, the lowest first, and takes what rt has compiled: the listing program and the library's archive.
 prove() {
-    local crates
-    mapfile -t crates < <(crates_below valvepigeon listing)    # valvepigeon is the first, and is left to the second command
-    rt check "${crates[@]:1}" 2>&1 </dev/null | progress ${#crates[@]}
-    [ "${PIPESTATUS[0]}" -eq 0 ] || return 1
-    rt staticlib valvepigeon >>"$own/log" 2>&1 </dev/null || return 1
-    tell "${#crates[@]} of ${#crates[@]}: valvepigeon proved"
+    local crates crate count=0
+    mapfile -t crates < <(crates_below valvepigeon listing)
+    : >"$own/log" || return 1
+    for crate in "${crates[@]}"; do
+        prove_crate "$crate" >>"$own/log" 2>&1 </dev/null || return 1
+        tell "$((count += 1)) of ${#crates[@]}: $crate proved"
+    done
+    mkdir -p target/bin "${archive%/*}" && cp crates/listing/out/listing target/bin && cp "crates/valvepigeon/out/${archive##*/}" "$archive"
 }
 
 # Adds the C files to what rt has compiled, in a folder of its own until all of it is there.

@@ -1,7 +1,7 @@
-# The kit's own tools, for bash; needs `rt` on the path. What rt compiles is for x86-64; on another machine it runs under the kit's
-# emulator, as rt runs it.
+# The kit's own tools, for bash; needs `rt` on the path. What rt compiles is for x86-64; on another machine it runs under an
+# emulator, where the kit has one.
 kit=${RATTLE_HOME:-$(dirname "$(dirname "$(readlink -f "$(command -v rt)")")")}
-tools=$kit/on/$(uname -m)/toolchain
+tools=$kit/toolchain
 
 run_x86() { # PROGRAM WORD...
     local emulator=$tools/bin/qemu-x86_64
@@ -17,7 +17,7 @@ compile_c() { # OBJECT SOURCE
 link_objects() { # PROGRAM OBJECT-OR-ARCHIVE...
     local program=$1
     shift
-    "$kit/on/$(uname -m)/bin/rattle-link" --target x86_64-unknown-linux-gnu --toolchain "$tools" -o "$program" "$@" >"$program.log" 2>&1 ||
+    "$kit/bin/rattle-link" --target x86_64-unknown-linux-gnu --toolchain "$tools" -o "$program" "$@" >"$program.log" 2>&1 ||
         { cat "$program.log"; return 1; }
 }
 

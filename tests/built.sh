@@ -8,22 +8,20 @@ need_library
 paper_sheet >"$room/sheet"
 copy="$room/a copy"
 mkdir "$copy" "$room/stand-in" "$room/notes"
-cp -R crates crates.txt command include library scripts valvepigeon build-library "$copy"
+tar -c --exclude=out crates crates.txt command include library scripts valvepigeon build-library | tar -x -C "$copy"
 
 export BUILT=$PWD NOTES=$room/notes RATTLE_HOME=$kit REFUSE=
 cat >"$room/stand-in/rt" <<'R'
 #!/usr/bin/env bash
-# Stands in for `rt check CRATE...` and `rt staticlib valvepigeon`.
-echo "$1" >>"$NOTES/calls"
+# Stands in for `rt lib` and `rt run` in a crate's folder.
+echo "$1 ${PWD##*/}" >>"$NOTES/calls"
 mkdir "$NOTES/busy" || echo "$1" >>"$NOTES/overlaps"
-sleep 0.1
-if [ "$1" = check ]; then
-    mkdir -p target/bin && cp "$BUILT/target/command/listing" target/bin
-    for crate in "${@:2}"; do echo "rt: $crate proved (0 s)"; done
-    [ -z "$REFUSE" ]
-else
-    mkdir -p target/staticlib && cp "$BUILT/target/staticlib/libvalvepigeon.a" target/staticlib
-fi
+sleep 0.05
+mkdir -p out
+case "$1 ${PWD##*/}" in
+    'run listing') cp "$BUILT/target/command/listing" out ;;
+    'lib valvepigeon') cp "$BUILT/target/staticlib/libvalvepigeon.a" out ;;
+esac && [ -z "$REFUSE" ]
 status=$?
 rmdir "$NOTES/busy"
 exit $status
@@ -42,6 +40,25 @@ lists() { # WHAT [TOLD]
     if [ $# -eq 1 ] || grep -qF -- "$2" "$room/told"; then pass; else fail "$1: told $(tail -n 3 "$room/told")"; fi
 }
 
+# What rt is called for when all is built: each crate that the two stand on, the lowest first.
+python3 - >"$room/once" <<'P'
+below = {}
+for line in open("crates.txt"):
+    name, colon, rest = line.partition("#")[0].partition(":")
+    if colon:
+        below[name.split()[0]] = rest.split()
+needed, todo = set(), ["listing", "valvepigeon"]
+while todo:
+    name = todo.pop()
+    if name in below and name not in needed:
+        needed.add(name)
+        todo += below[name]
+for name in below:
+    if name in needed:
+        print("run" if name == "listing" else "lib", name)
+P
+once=$(tr '\n' ' ' <"$room/once")
+
 # Several calls at once all end right, and build once.
 at_once() { # CALLS
     local call
@@ -50,26 +67,13 @@ at_once() { # CALLS
     done
     wait
     for call in $(seq "$1"); do is "call $call of $1" "$(cat "$room/out.$call")" "$paper_listing"; done
-    is "$1 calls at once: what rt was called for" "$(calls)" 'check staticlib '
+    is "$1 calls at once: what rt was called for" "$(calls)" "$once"
     is "$1 calls at once: calls of rt that overlap" "$(cat "$NOTES/overlaps" 2>&1)" "cat: $NOTES/overlaps: No such file or directory"
 }
 
 # ---- ten calls on the fresh copy, with a line of progress for each crate that the two stand on
 at_once 10
-python3 - >"$room/crates" <<'P'
-below = {}
-for line in open("crates.txt"):
-    name, colon, rest = line.partition("#")[0].partition(":")
-    if colon:
-        below[name.strip()] = rest.split()
-needed, todo = set(), ["listing", "valvepigeon"]
-while todo:
-    name = todo.pop()
-    if name in below and name not in needed:
-        needed.add(name)
-        todo += below[name]
-print(*sorted(needed), sep="\n")
-P
+cut -d' ' -f2 "$room/once" | LC_ALL=C sort >"$room/crates"
 number=$(wc -l <"$room/crates")
 cat "$room"/told.* | sed -n "s/^valvepigeon: \([0-9]*\) of $number: \([a-z_]*\) proved\$/\1 \2/p" >"$room/progress"
 is 'the numbers of the progress' "$(cut -d' ' -f1 "$room/progress" | tr '\n' ' ')" "$(seq -s ' ' "$number") "
@@ -110,7 +114,7 @@ is 'the names of the shared library' "$(cd "$copy/target/staticlib" && echo libv
     "libvalvepigeon.so.$(sed -n 's/^#define VP_VERSION_STRING "\([0-9]*\).*/\1/p' include/valvepigeon.h)"
 rm "$copy/target/command/verbs"
 lists 'a program is gone'
-is 'twice something else: what rt was called for' "$(calls)" 'check staticlib check staticlib '
+is 'twice something else: what rt was called for' "$(calls)" "$once$once"
 
 # ---- changed sources: without rt, without a proof, and then built, by calls at once that have no flock
 echo '// changed' >>"$copy/crates/listing/src/main.rt"

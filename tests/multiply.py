@@ -1,112 +1,116 @@
-"""Reads which multiplications the compiler is given, of the code that rt prints.
+"""Reads which multiplications the compiler is given, of the code that the kit
+keeps of each library (mir.json).
 
-    rt mir CRATE | python3 tests/multiply.py FUNCTION...
+    python3 tests/multiply.py KIT FUNCTION... <CODE
 
-The code is that of the crate and of all that it stands on, before any pass of
-the compiler. A multiplication may have two factors of 16 bits, each a value of
-a 16-bit type or one that was widened from it, and stand in one of the
-FUNCTIONs; or it is a place's, by 2, 4 or 8, the sizes of what is counted. No
-doubles are multiplied. For each multiplication, and for each FUNCTION that has
-none, there is a line on standard output: `right` or `wrong`, the function, and
-what it multiplies.
+CODE is the code of our crates, a line of JSON for each, before any pass of the
+compiler; KIT is that of the kit's own library, of which the functions that our
+code reaches are read too. A multiplication may have two factors of 16 bits,
+each a value of a 16-bit type or one that was widened from it, and stand in one
+of the FUNCTIONs; or it is a place's, by 2, 4 or 8, the sizes of what is
+counted. No doubles are multiplied. For each multiplication, and for each
+FUNCTION that has none, there is a line on standard output: `right` or `wrong`,
+the function, and what it multiplies.
 """
 
-import re
+import json
 import sys
 
 
-def parsed(text):
-    """The code as nested lists of words."""
-    stack = [[]]
-    for token in re.findall(r'"[^"]*"|[()]|[^\s()]+', text):
-        if token == "(":
-            stack.append([])
-        elif token == ")":
-            inner = stack.pop()
-            stack[-1].append(inner)
-        else:
-            stack[-1].append(token)
-    return stack[0]
-
-
 def below(tree):
-    """Every list in the tree, the tree itself first."""
-    if isinstance(tree, list):
-        yield tree
+    """Every part of the code, the whole first."""
+    yield tree
+    if isinstance(tree, dict):
+        tree = tree.values()
+    if not isinstance(tree, str) and hasattr(tree, "__iter__"):
         for part in tree:
             yield from below(part)
 
 
-def functions(tree):
-    """The name of each function and its item."""
-    for node in below(tree):
-        if node[:1] == ["fn-def"]:
-            yield node[1].strip('"'), node[2]
+def nodes(tree, name):
+    """What stands below a name in the code: nodes(.., "Op2") are the operations
+    on two values."""
+    for part in below(tree):
+        if isinstance(part, dict) and name in part:
+            yield part[name]
 
 
-def locals_of(item):
-    """The types of a function's locals, by their numbers."""
-    return [node[1] for node in below(item) if node[:1] == ["local"]]
+def reached(ours, kit):
+    """Our functions, and those of the kit's that they reach."""
+    found, todo = {}, list(ours)
+    while todo:
+        name = todo.pop()
+        if name in found or name not in ours and name not in kit:
+            continue
+        found[name] = ours.get(name, kit.get(name))
+        todo += [called[0] for called in nodes(found[name], "Fn")]
+    return found
 
 
-def plain(operand):
+def place(operand):
     """The number of the local that an operand is, whole, or None."""
-    if operand[0] in ("copy", "move") and operand[1][2] == "lnil":
-        return int(operand[1][1])
-    return None
+    whole = operand.get("Copy") or operand.get("Move")
+    return whole["local"] if whole and not whole["steps"] else None
 
 
-def uses(item, place):
-    """Each list of the code that has a local's place, but for what reads it."""
-    for node in below(item):
-        for part in node:
-            if part[:2] == ["place", str(place)] and node[0] not in ("copy", "move"):
-                yield node
+def uses(item, local):
+    """What a function does with a local, but for reading it."""
+    for part in below(item["body"]):
+        if not isinstance(part, dict):
+            continue
+        for does, with_what in part.items():
+            parts = with_what if isinstance(with_what, list) else [with_what]
+            if does not in ("Copy", "Move") and any(
+                    isinstance(it, dict) and it.get("local") == local for it in parts):
+                yield does, with_what
 
 
-def widens(types, node):
-    """Whether a list of the code assigns to a place what had 16 bits."""
-    if node[0] != "assign" or node[2][0] != "op1" or node[2][1][0] != "cast":
+def widens(item, does, with_what):
+    """Whether it assigns to a local what had 16 bits."""
+    if does != "Assign" or "Cast" not in str(with_what[1].get("Op1", "")):
         return False
-    given = plain(node[2][2])
-    return given is not None and types[given] == ["tyInt", "16"]
+    given = place(with_what[1]["Op1"][1])
+    return given is not None and item["locals"][given]["ty"] == {"Int": 16}
 
 
 def sixteen(item, operand):
     """Whether an operand has 16 bits: by its type, or since nothing is done to
     its local but to widen 16 bits to it and to read it."""
-    types, place = locals_of(item), plain(operand)
-    if place is None:
+    local = place(operand)
+    if local is None:
         return False
-    if types[place] == ["tyInt", "16"]:
+    if item["locals"][local]["ty"] == {"Int": 16}:
         return True
-    found = list(uses(item, place))
-    return bool(found) and all(widens(types, node) for node in found)
+    found = list(uses(item, local))
+    return bool(found) and all(widens(item, *use) for use in found)
 
 
 def step(operand):
     """Whether an operand is the size of what places are counted by."""
-    return operand[0] == "int" and operand[2] in ("2", "4", "8")
+    return operand.get("Int", {}).get("value") in (2, 4, 8)
 
 
 def shown(operand):
-    return operand[2] if operand[0] == "int" else "local " + operand[1][1]
+    return str(operand["Int"]["value"]) if "Int" in operand else f"local {place(operand)}"
 
 
-def multiplications(tree, allowed):
+def multiplications(code, allowed):
     """Each multiplication as a verdict, its function and its factors."""
-    for name, item in functions(tree):
-        for node in below(item):
-            if node[:1] != ["op2"] or node[1] != "floatMul" and node[1][0] != "mul":
+    for name, item in sorted(code.items()):
+        for operation, *factors in nodes(item["body"], "Op2"):
+            if "Mul" not in str(operation):
                 continue
-            factors = node[2:4]
             halves = name in allowed and all(sixteen(item, f) for f in factors)
-            verdict = "right" if halves or any(map(step, factors)) else "wrong"
+            placed = operation != "FloatMul" and any(map(step, factors))
+            verdict = "right" if halves or placed else "wrong"
             yield verdict, name, " by ".join(map(shown, factors))
 
 
-def main(*allowed):
-    found = list(multiplications(parsed(sys.stdin.read()), allowed))
+def main(kit, *allowed):
+    ours = {name: item for line in sys.stdin if line.strip() for name, item in json.loads(line)}
+    with open(kit, encoding="utf-8") as file:
+        code = reached(ours, dict(json.load(file)))
+    found = list(multiplications(code, allowed))
     for verdict in found:
         print(*verdict)
     for name in allowed:

@@ -133,8 +133,8 @@ module _ (c : tie.After-term_bound-bound invariant-loop decreases-loop) where
 
 returns-3 : tie.Need-returns-in_default invariant-loop decreases-loop
 returns-3 c =
-    let b = c.before.before in
-    record { words = λ e. absurd (left_not e); same = λ h. sym (step b (h (i b + i b + 1)) Beyond c.enum_told-1.given.1) }
+    let b = c.before in
+    record { words = λ e. absurd (left_not e); same = λ h. sym (step b (h (i b + i b + 1)) Beyond c.in_default.is) }
 
 -- at depth 0 all numbers are words, and nothing is divided by what stands there
 admitted : (d : tie.Start invariant-loop decreases-loop) (j l : ℕ) → j ≡ 0 → whole d ≡ from d j l → WordsFrom (ws d) (j + j) → Judged (ws d) (whole d) Admitted
@@ -142,25 +142,25 @@ admitted d j l z e h = record { words = λ q n. h n (omega arith); same = λ q. 
 
 returns-4 : tie.Need-returns-then-j-eq0 invariant-loop decreases-loop
 returns-4 c =
-    let b = c.before.before.before.before.before in
-    let g = c.bound.given in
-    admitted (d b) (i b) g.0.0 c.if-j-eq0.true (on b g.0.0 g.1) (words-on b g.0.0 g.1)
+    let b = c.before.before.before in
+    let g = c.in-Least in
+    admitted (d b) (i b) g.least c.if-j-eq0.true (on b g.least g.is) (words-on b g.least g.is)
 
 returns-5 : tie.Need-returns-then-least-eq0 invariant-loop decreases-loop
 returns-5 c =
-    let b = c.before.before.before.before.before in
+    let b = c.before.before.before in
     let a = (d b).args in
-    let g = c.bound.given in
+    let g = c.in-Least in
     record {
       words = λ e. absurd (zero_not e);
-      same = λ h. walk_zero a.s a.first a.rest (ws (d b)) (i b) g.0.0 (i b - 1) (omega (arith, c.if-j-eq0.false)) c.if-least-eq0.true ∙ sym (on b g.0.0 g.1);
+      same = λ h. walk_zero a.s a.first a.rest (ws (d b)) (i b) g.least (i b - 1) (omega (arith, c.if-j-eq0.false)) c.if-least-eq0.true ∙ sym (on b g.least g.is);
     }
 
 loop-again : tie.Need-loop-j-preserved invariant-loop decreases-loop
 loop-again c =
-    let b = c.before.before.before.before in
-    let g = c.bound.given in
-    (omega (arith, inside b.before), on b g.0.0 g.1, omega (arith, c.if-least-eq0.false), words-on b g.0.0 g.1)
+    let b = c.before.before in
+    let g = c.in-Least in
+    (omega (arith, inside b.before), on b g.least g.is, omega (arith, c.if-least-eq0.false), words-on b g.least g.is)
 
 returns-6 : tie.Need-returns invariant-loop decreases-loop
 returns-6 c =

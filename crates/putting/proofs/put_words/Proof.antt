@@ -18,12 +18,11 @@ loop-holds c = (search rules, refl, refl)
 
 loop-again : tie.Need-loop-i-preserved invariant-loop decreases-loop
 loop-again c =
-    let l = c.before.before.before.before.before.before in
-    let a = l.args in
-    let f : SFits w32 (get_or a.words.now l.loop-i.i (pos 0)) = search rules in (
+    let a = c.args in
+    let f : SFits w32 (get_or a.words.now c.loop-i.i (pos 0)) = search rules in (
       search rules,
-      c.put_word.auto.0 ∙ l.loop-i.invariant.1,
-      turn _ a.at l.loop-i.i a.words.now _ (omega arith) l.loop-i.invariant.2 (to_z-of_z f) c.put_word.ensures,
+      c.put_word.auto.out ∙ c.loop-i.invariant.1,
+      turn _ a.at c.loop-i.i a.words.now _ (omega arith) c.loop-i.invariant.2 (to_z-of_z f) c.put_word.ensures,
     )
 
 returns : tie.Need-returns invariant-loop decreases-loop

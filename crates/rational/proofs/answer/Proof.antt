@@ -70,10 +70,10 @@ module _ (c : tie.After-quotient-r) where
   start = second two
 
   ratio-held : Held w64 c.quotient-r.result.value (rational_of (S start) (num start) (den start) (x start))
-  ratio-held = known (c.quotient-r.ensures.0 ∙ ap₂ (quotient_of (S start)) (held (top-held two.before)) (held (bottom-held two))) (fit_abs (omega (arith, (stays start).answer-n)))
+  ratio-held = known (c.quotient-r.ensures.0 ∙ ap₂ (quotient_of (S start)) (held (top-held two.before)) (held (bottom-held two))) (fit_abs (omega (arith, (stays start).answer)))
 
   answer-held : Held w32 (back w64 c.quotient-r.result.value) (rational_of (S start) (num start) (den start) (x start))
-  answer-held = cast ratio-held (fit_abs (omega (arith, (stays start).answer-n)))
+  answer-held = cast ratio-held (fit_abs (omega (arith, (stays start).answer)))
 
   abbrev loose : ℕ
   loose = bit_or two.answer-n.result.loose two.answer-d.result.loose

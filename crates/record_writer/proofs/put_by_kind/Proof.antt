@@ -13,31 +13,31 @@ named s e = sym e ∙ s.requires.0
 
 put-by-code-requires : tie.Need-put_by_code-requires
 unfolding row_of first_row rows
-put-by-code-requires c κs = (named c.before.before c.in-16.keys1, refl)
+put-by-code-requires c κs = (named c.before.before c.in-16.is, refl)
 
 put-by-code-requires-2 : tie.Need-put_by_code-requires-in-17
 unfolding row_of first_row rows
-put-by-code-requires-2 c κs = (named c.before.before c.in-16.keys2, refl)
+put-by-code-requires-2 c κs = (named c.before.before c.in-17.is, refl)
 
 put-by-code-requires-3 : tie.Need-put_by_code-requires-in-18
 unfolding row_of first_row rows
-put-by-code-requires-3 c κs = (named c.before.before c.in-16.keys3, refl)
+put-by-code-requires-3 c κs = (named c.before.before c.in-18.is, refl)
 
 put-by-code-requires-4 : tie.Need-put_by_code-requires-in-19
 unfolding row_of first_row rows
-put-by-code-requires-4 c κs = (named c.before.before c.in-16.keys4, refl)
+put-by-code-requires-4 c κs = (named c.before.before c.in-19.is, refl)
 
 put-by-code-requires-5 : tie.Need-put_by_code-requires-in-20
 unfolding row_of first_row rows
-put-by-code-requires-5 c κs = (named c.before.before c.in-16.keys5, refl)
+put-by-code-requires-5 c κs = (named c.before.before c.in-20.is, refl)
 
 put-by-code-requires-6 : tie.Need-put_by_code-requires-in-21
 unfolding row_of first_row rows
-put-by-code-requires-6 c κs = (named c.before.before c.in-16.keys6, refl)
+put-by-code-requires-6 c κs = (named c.before.before c.in-21.is, refl)
 
 returns-7 : tie.Need-returns-in_default
 returns-7 c =
-    let d = c.in-16.rest in
+    let d = c.in_default.in_default-own.rest in
     let n = c.args.code in
     let three : only_formula (row_of n).class ≡ 3 = no_formula_lem n d.0.0.0.0.0.1 d.0.0.0.0.1 d.0.0.0.1 d.0.0.1 d.0.1 d.1 in
     absurd (omega (arith, three, ap only_formula c.requires.1))

@@ -1,5 +1,10 @@
 -- `record_writer::write_record` meets its contract: no formula (3), the scale's fault, the counts', and what the reader's check makes of the record.
-use Rattle.whole.proofs.Basics.{◌≡◌, ◌∙◌, refl, sym, ap, List, ℕ, ◌≤◌, arith, length, take, get_or, pos, w32, SFits, rules, eq-eqb}
+use Rattle.whole.proofs.Basics.{◌≡◌, ◌∙◌, refl, sym, ap, subst, List, ℕ, ◌≤◌, arith, length, take, get_or, ℤ, pos, w32, SFits, rules, eq-eqb}
+use mathlib.Core.List.{map-id}
+use mir.Val.{Val}
+use denote.Array.{each}
+use denote.Shadow.{shadow}
+use denote.Signed.{SInt}
 use lib.ListN.{replicate}
 use lib.Seq.{sets, length-sets, length-take-le}
 use Rattle.formula.specs.declared.Formula.{Formula}
@@ -18,8 +23,13 @@ use Rattle.record_writer.proofs.RecordWriting.{tidy, judged, front_taken, put_no
 use Rattle.record_writer.proofs.write_record.Statement.{statement}
 use Rattle.record_writer.proofs.write_record.Tie as tie
 
+-- the words lie in the formula as they are
+element : (xs : List ℤ) (us : List Val) (i : ℕ) → shadow (each ℤ (SInt w32).own_val xs us) → SFits w32 (get_or xs i (pos 0))
+element xs us i p =
+    field_element xs us i (subst (λ (ys : List ℤ). shadow (each ℤ (SInt w32).own_val ys us)) (sym (map-id xs)) p)
+
 each_fits : (s : tie.Start) (k : ℕ) → SFits w32 (get_or s.args.f.words k (pos 0))
-each_fits s k = search (rules, field_element)
+each_fits s k = search (rules, element)
 
 handed : (s : tie.Start) → Handed s.args.f
 handed s = record { number = search rules; mode = search rules; lo = search rules; hi = search rules; each = each_fits s; long = search rules }
@@ -85,7 +95,7 @@ module _ (c : tie.Else-n-eq0) where
   short = short_record (row_by f) (plain f) (tidy f (class put.before.before.before.before) counts (handed start))
 
   abbrev array : List ℕ
-  array = put.put_by_kind-n.last.1.1.0
+  array = put.put_by_kind-n.new.bytes
 
   array-is : array ≡ sets (replicate 120 0) 0 (bytes_of f)
   array-is = rw (eq-eqb _ _ counts) at put.put_by_kind-n.ensures.1

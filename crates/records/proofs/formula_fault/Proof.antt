@@ -14,31 +14,31 @@ named c e = sym c.code.ensures ∙ e
 
 returns : tie.Need-returns-in-16
 unfolding code_for row_of first_row rows
-returns c = rw (named c.before.before c.in-16.keys1) (pass refl refl c.polynomial_fault.ensures)
+returns c = rw (named c.before.before c.in-16.is) (pass refl refl c.polynomial_fault.ensures)
 
 returns-2 : tie.Need-returns-in-17
 unfolding code_for row_of first_row rows
-returns-2 c = rw (named c.before.before c.in-16.keys2) (pass refl refl c.rational_fault.ensures)
+returns-2 c = rw (named c.before.before c.in-17.is) (pass refl refl c.rational_fault.ensures)
 
 returns-3 : tie.Need-returns-in-18
 unfolding code_for row_of first_row rows
-returns-3 c = rw (named c.before.before c.in-16.keys3) (pass refl refl c.fraction_fault.ensures)
+returns-3 c = rw (named c.before.before c.in-18.is) (pass refl refl c.fraction_fault.ensures)
 
 returns-4 : tie.Need-returns-in-19
 unfolding code_for row_of first_row rows
-returns-4 c = rw (named c.before.before c.in-16.keys4) (pass refl refl (c.root_fault.ensures ∙ no_words _ (row_of 0x0013) _ _ _ _ refl))
+returns-4 c = rw (named c.before.before c.in-19.is) (pass refl refl (c.root_fault.ensures ∙ no_words _ (row_of 0x0013) _ _ _ _ refl))
 
 returns-5 : tie.Need-returns-in-20
 unfolding code_for row_of first_row rows
-returns-5 c = rw (named c.before.before c.in-16.keys5) (pass refl refl c.odd_fault.ensures)
+returns-5 c = rw (named c.before.before c.in-20.is) (pass refl refl c.odd_fault.ensures)
 
 returns-6 : tie.Need-returns-in-21
 unfolding code_for row_of first_row rows
-returns-6 c = rw (named c.before.before c.in-16.keys6) (pass refl refl c.even_fault.ensures)
+returns-6 c = rw (named c.before.before c.in-21.is) (pass refl refl c.even_fault.ensures)
 
 returns-7 : tie.Need-returns-in_default
 returns-7 c =
-    let d = c.in-16.rest in
+    let d = c.in_default.in_default-own.rest in
     let e = c.code.ensures in
     rw (← e) (stop _ (sym (no_formula_lem c.code.result d.0.0.0.0.0.1 d.0.0.0.0.1 d.0.0.0.1 d.0.0.1 d.0.1 d.1)) (λ z. omega arith))
 

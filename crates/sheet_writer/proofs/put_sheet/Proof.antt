@@ -40,7 +40,7 @@ put-framing-requires-2 c κs =
     let f = b.before.before.before.before in (
       rw c.row_of.ensures (ruled 0xffff),
       omega
-          (arith, head f, (start f).requires, start_head, end_head, as_long ((start f).args.out.now) 0 (framing_bytes f.row_of-start.result (start f).args.count) f.put_framing.ensures, as_long f.put_framing.new.0 f.row_of-start.result.head ((start f).args.run.now) b.put_bytes.ensures),
+          (arith, head f, (start f).requires, start_head, end_head, as_long ((start f).args.out.now) 0 (framing_bytes f.row_of-start.result (start f).args.count) f.put_framing.ensures, as_long f.put_framing.new.out f.row_of-start.result.head ((start f).args.run.now) b.put_bytes.ensures),
     )
 
 returns : tie.Need-returns

@@ -10,14 +10,14 @@ named : (c : tie.After-code) {n : ℕ} → c.code.result ≡ n → code_of c.arg
 named c e = sym c.code.ensures ∙ e
 
 returns : tie.Need-returns-in-1
-returns c = c.start_fault.ensures ∙ at_start _ _ _ _ (named c.before.before c.in-1.keys1)
+returns c = c.start_fault.ensures ∙ at_start _ _ _ _ (named c.before.before c.in-1.is)
 
 returns-2 : tie.Need-returns-in-65535
-returns-2 c = c.end_fault.ensures ∙ at_end _ _ _ _ (named c.before.before c.in-1.keys2)
+returns-2 c = c.end_fault.ensures ∙ at_end _ _ _ _ (named c.before.before c.in-65535.is)
 
 returns-3 : tie.Need-returns-in_default
 returns-3 c =
-    let d = c.in-1.rest in
+    let d = c.in_default.in_default-own.rest in
     let e = c.code.ensures in
     c.formula_fault.ensures ∙ at_other _ _ _ _ (λ z. d.0.1 (e ∙ z)) (λ z. d.1 (e ∙ z))
 

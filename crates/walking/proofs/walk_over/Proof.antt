@@ -1,5 +1,5 @@
 -- `walking::walk_over` meets its contract. The invariant is `Going`: the whole answer is that of the walk from here on.
-use Rattle.whole.proofs.Basics.{◌≡◌, ◌∙◌, refl, sym, ap, false, List, ℕ, suc, zero, ◌+◌, ◌-◌, ◌≤◌, arith, eqb, length, rules}
+use Rattle.whole.proofs.Basics.{◌≡◌, ◌∙◌, refl, sym, ap, false, List, ℕ, suc, zero, ◌+◌, ◌-◌, ◌≤◌, arith, eqb, eq-eqb, ne_eqb, length, rules}
 use mathlib.Core.Logic.{⊎_elim}
 use Rattle.layout.specs.Fields.{code_of}
 use Rattle.faults.proofs.Frames.{reaches}
@@ -17,9 +17,7 @@ abbrev decreases-loop : tie.decreases-loop-w
 decreases-loop bytes from asked s w₀ w = from + length bytes - w.at
 
 loop-holds : tie.Need-loop-w-init invariant-loop decreases-loop
-loop-holds c =
-    let d = c.before.before in
-    rw c.begin-w.ensures (starts d.args.s _ d.args.from d.args.asked d.requires)
+loop-holds c = rw c.begin-w.ensures (starts c.args.s _ c.args.from c.args.asked c.requires)
 
 -- ---- whether a run is done, by the two tests
 sheet : (bytes : List ℕ) (from : ℕ) (w : Walk) → from ≡ 0 → run_done bytes from w ≡ false
@@ -34,39 +32,35 @@ sub-if2 c = omega (arith, c.loop-w.invariant.standing.begun)
 
 returns : tie.Need-returns-then-w-from invariant-loop decreases-loop
 returns c =
-    let l = c.before.before.before in
-    let a = l.args in
-    sym (rest_is l.loop-w.invariant ∙ walk_done a.s _ a.from l.loop-w.w _ (run _ a.from l.loop-w.w c.if-from-ne0.true ∙ c.if-w-from.true))
+    let w = c.loop-w.w in
+    let a = c.args in
+    sym (rest_is c.loop-w.invariant ∙ walk_done a.s _ a.from w _ (run _ a.from w c.if-from-ne0.true ∙ eq-eqb _ _ c.if-w-from.true))
 
 -- ---- the run is not done, or there is none
 module _ (c : tie.Joined-else-from-ne0 invariant-loop decreases-loop) where
-  abbrev start : tie.Start invariant-loop decreases-loop
-  start = c.before.before.before.before
-
   abbrev w : Walk
   w = c.loop-w.w
 
-  abbrev good : Going start.args.s start.args.bytes.now start.args.from start.args.asked w
+  abbrev good : Going c.args.s c.args.bytes.now c.args.from c.args.asked w
   good = c.loop-w.invariant
 
-  not_done : run_done start.args.bytes.now start.args.from w ≡ false
+  not_done : run_done c.args.bytes.now c.args.from w ≡ false
   not_done =
-      ⊎_elim (λ t. run _ start.args.from w t.0.true ∙ t.2.left) (λ t. sheet _ start.args.from w t.left) c.if-from-ne0.branch
+      ⊎_elim (λ t. run _ c.args.from w t.if-from-ne0.true ∙ ne_eqb _ _ t.if-w-from.false) (λ t. sheet _ c.args.from w t.if-from-ne0.false) c.else-from-ne0.branch-raw
 
 fault-at-requires : tie.Need-fault_at-f-requires invariant-loop decreases-loop
 fault-at-requires c κs = ((good c).standing, (good c).scale)
 
 returns-2 : tie.Need-returns-then-f-ne0 invariant-loop decreases-loop
 returns-2 c =
-    let f = c.before.before in
-    let e = f.before in
-    let a = (start e).args in
-    c.refused.ensures ∙ sym (rest_is (good e) ∙ walk_broken a.s a.bytes.now a.from (w e) _ (not_done e) f.fault_at-f.ensures c.if-f-ne0.true)
+    let e = c.before.before.before in
+    let a = c.args in
+    c.refused.ensures ∙ sym (rest_is (good e) ∙ walk_broken a.s a.bytes.now a.from (w e) _ (not_done e) c.fault_at-f.ensures c.if-f-ne0.true)
 
 -- ---- and there is no fault
 fine : (c : tie.Else-f-ne0 invariant-loop decreases-loop) →
     let e = c.before.before in
-    let a = (start e).args in
+    let a = c.args in
     Fine a.s a.bytes.now a.from a.asked (w e)
 fine c =
     let e = c.before.before in
@@ -89,37 +83,34 @@ code_is c = sym (rw c.record_at-b.ensures at c.code.ensures)
 opened : (c : tie.After-after_start-w invariant-loop decreases-loop) → Past (fine c.before.before.before.before.before) c.after_start-w.result
 opened c =
     let k = c.before.before in
-    past_start (fine k.before.before.before) (rw k.record_at-b.ensures at c.after_start-w.ensures) (code_is k ∙ c.in-1.keys1)
+    past_start (fine k.before.before.before) (rw c.record_at-b.ensures at c.after_start-w.ensures) (code_is k ∙ c.in-1.is)
 
 add-ending : tie.Need-overflow_add-w invariant-loop decreases-loop
 add-ending c =
-    let r = c.before.before.before in
-    let e = r.before.before in
-    let f = fine e in
+    let f = fine c.before.before.before.before.before in
     let g = f.going in
-    record { fits = omega (arith, ap length r.record_at-b.ensures, long f, (frame f).most, g.standing.within, g.near, (start e.before.before).good) }
+    record { fits = omega (arith, ap length c.record_at-b.ensures, long f, (frame f).most, g.standing.within, g.near, c.well_formed) }
 
 returns-3 : tie.Need-returns-in-65535 invariant-loop decreases-loop
 returns-3 c =
     let k = c.before.before.before in
-    rw k.record_at-b.ensures at c.ending.ensures ∙ sym (at_end (fine k.before.before.before) (code_is k ∙ c.in-1.keys2))
+    rw c.record_at-b.ensures at c.ending.ensures ∙ sym (at_end (fine k.before.before.before) (code_is k ∙ c.in-65535.is))
 
 -- past any other, which is a formula
 moved : (c : tie.In_default invariant-loop decreases-loop) {v : Walk} →
     let e = c.before.before.before.before in
     v ≡ after_formula (here (fine e)) (w e.before.before) → Past (fine e) v
 moved c q =
-    let n = c.in-1.rest in
+    let n = c.in_default.in_default-own.rest in
     let k = code_is c.before in
     past_formula (fine c.before.before.before.before) q (λ z. n.0.1 (sym k ∙ z)) (λ z. n.1 (sym k ∙ z))
 
 after-formula-requires : tie.Need-after_formula-w-requires invariant-loop decreases-loop
 after-formula-requires c κs =
     let r = c.before.before in
-    let e = r.before.before.before.before in
-    let g = good e in
+    let g = c.loop-w.invariant in
     let m = (moved c refl).0 in
-    (long-enough r, omega (arith, ap length r.record_at-b.ensures, m.standing.within, m.near, (start e).well-formed), omega (arith, g.seen, g.count))
+    (long-enough r, omega (arith, ap length c.record_at-b.ensures, m.standing.within, m.near, c.well_formed), omega (arith, g.seen, g.count))
 
 behind : (c : tie.After-after_formula-w invariant-loop decreases-loop) → Past (fine c.before.before.before.before.before) c.after_formula-w.result
 behind c = moved c.before (rw c.record_at-b.ensures at c.after_formula-w.ensures)

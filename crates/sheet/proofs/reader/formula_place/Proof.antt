@@ -7,19 +7,15 @@ use Rattle.sheet.proofs.reader.formula_place.Tie as tie
 
 returns : tie.Need-returns-then-found-eq0
 unfolding formula_place
-returns c =
-    let f = c.before.before in
-    ap place_found (sym c.if-found-eq0.true) ∙ ap place_answer (sym f.found.given.1 ∙ f.walk_over.ensures)
+returns c = ap place_found (sym c.if-found-eq0.true) ∙ ap place_answer c.in-Whole.ensures
 
 returns-2 : tie.Need-returns-else-found-eq0
 unfolding formula_place
-returns-2 c =
-    let f = c.before.before in
-    at_place _ c.if-found-eq0.false ∙ ap place_answer (sym f.found.given.1 ∙ f.walk_over.ensures)
+returns-2 c = at_place _ c.if-found-eq0.false ∙ ap place_answer c.in-Whole.ensures
 
 returns-3 : tie.Need-returns-in-Broken
 unfolding formula_place
-returns-3 c = let f = c.before in ap place_answer (sym f.r.given.1 ∙ f.walk_over.ensures)
+returns-3 c = ap place_answer c.in-Broken.ensures
 
 pub formula_place_spec : {M : Type 1} → statement M
 formula_place_spec =

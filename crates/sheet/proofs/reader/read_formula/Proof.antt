@@ -9,13 +9,10 @@ use Rattle.sheet.proofs.reader.read_formula.Tie as tie
 
 -- the place that was answered, and what stands there
 module _ (c : tie.In-At) where
-  abbrev start : tie.Start
-  start = c.before.before.before
+  answered : formula_place c.args.places c.args.s.now c.args.number ≡ At c.in-At.place
+  answered = sym c.in-At.ensures
 
-  answered : formula_place start.args.places start.args.s.now start.args.number ≡ At c.place.given.0.0
-  answered = sym c.formula_place.ensures ∙ c.place.given.1
-
-  standing : FormulaStands start.args.places start.args.s.now c.place.given.0.0
+  standing : FormulaStands c.args.places c.args.s.now c.in-At.place
   standing = place_standing _ _ _ _ answered
 
 record-at-requires : tie.Need-record_at-requires
@@ -27,15 +24,11 @@ formula-in-requires c κs = rw c.record_at.ensures (standing c.before).here.one
 returns : tie.Need-returns-in-At
 unfolding formula_read
 returns c =
-    let k = c.before.before in
-    ap (reading Given) (rw c.record_at.ensures at c.formula_in.ensures) ∙ ap (read_at ((start k).args.s.now)) (sym (answered k))
+    ap (reading Given) (rw c.record_at.ensures at c.formula_in.ensures) ∙ ap (read_at c.args.s.now) c.in-At.ensures
 
 returns-2 : tie.Need-returns-in-Refused
 unfolding formula_read
-returns-2 c =
-    let k = c.before.before in
-    let a = k.args in
-    c.withheld.ensures ∙ ap (read_at a.s.now) (sym k.r.given.1 ∙ k.formula_place.ensures)
+returns-2 c = c.withheld.ensures ∙ ap (read_at c.args.s.now) c.in-Refused.ensures
 
 pub read_formula_spec : {M : Type 1} → statement M
 read_formula_spec =

@@ -1,5 +1,5 @@
 -- `turn::sine` meets its contract: the sine by the record that stands at the place, or the place's refusal.
-use Rattle.whole.proofs.Basics.{◌≡◌, ◌∙◌, refl, sym, List, ℕ, rules}
+use Rattle.whole.proofs.Basics.{◌≡◌, ◌∙◌, refl, sym, List, ℕ}
 use Rattle.formula.specs.declared.Formula.{Formula}
 use Rattle.sheet.specs.Reader.{formula_place, formula_at, formula_read, FormulaStands}
 use Rattle.sheet.specs.declared.answers.Found.{Found}
@@ -13,11 +13,11 @@ use Rattle.board.specs.Board.{when_given}
 use Rattle.board.proofs.ReadingLaws.{when_at, when_refused}
 use Rattle.turn.specs.Angles.{quarter_of, argument_of, exact_argument}
 use Rattle.turn.specs.Sine.{sine_by, sine_of}
-use Rattle.turn.proofs.sine.Statement.{statement}
-use Rattle.turn.proofs.sine.Tie as tie
+use Rattle.turn.proofs.sine.Goals as goal
+use Rattle.turn.proofs.sine.Goals.{Start, In-At}
 
 -- what a formula answers at the angle's argument, and the sine by it
-module _ (d : tie.Start) where
+module _ (d : Start) where
   abbrev bytes : List ℕ
   bytes = d.args.s.now
 
@@ -46,43 +46,26 @@ module _ (d : tie.Start) where
       by (Withheld q) f = refl
 
 -- the place that was answered, and what stands there
-module _ (c : tie.In-At) where
-  abbrev start : tie.Start
-  start = c.before.before.before
+module _ (c : In-At) where
+  found : formula_place c.args.places c.args.s.now c.args.number ≡ At c.in-At.place
+  found = sym c.formula_place.ensures ∙ c.in-At.is
 
-  found : formula_place start.args.places start.args.s.now start.args.number ≡ At c.place.given.0.0
-  found = sym c.formula_place.ensures ∙ c.place.given.1
-
-  standing : FormulaStands start.args.places start.args.s.now c.place.given.0.0
+  standing : FormulaStands c.args.places c.args.s.now c.in-At.place
   standing = place_standing _ _ _ _ found
 
-record-at-requires : tie.Need-record_at-requires
-record-at-requires c κs = (standing c).reach
+pub record_at-requires : goal.record_at-requires
+record_at-requires c = (standing (goal.at.record_at-requires c).In-At).reach
 
-sine-of-requires : tie.Need-sine_of-requires
-sine-of-requires c κs = let t = standing c.before in (t.scale, rw c.record_at.ensures t.here)
+pub sine_of-requires : goal.sine_of-requires
+sine_of-requires c = let t = standing (goal.at.sine_of-requires c).In-At in (t.scale, rw c.record_at.ensures t.here)
 
-returns : tie.Need-returns-in-At
-returns c =
-    let k = c.before.before in
-    let d = start k in
-    let here : c.sine_of.result ≡ sine-by d (formula_at (bytes d) k.place.given.0.0) = rw c.record_at.ensures at c.sine_of.ensures in
-    here ∙ when_at d.args.places (bytes d) d.args.number (sine-by d) _ (found k) ∙ as-board d
+pub returns-in-At : goal.returns-in-At
+returns-in-At c =
+    let d = (goal.at.returns-in-At c).Start in
+    let here : c.sine_of.result ≡ sine-by d (formula_at (bytes d) c.in-At.place) = rw c.record_at.ensures at c.sine_of.ensures in
+    here ∙ when_at d.args.places (bytes d) d.args.number (sine-by d) _ (found (goal.at.returns-in-At c).In-At) ∙ as-board d
 
-returns-2 : tie.Need-returns-in-Refused
-returns-2 c =
-    let p = c.before in
-    let d = p.before.before.before.before in
-    when_refused d.args.places (bytes d) d.args.number (sine-by d) _ (sym p.formula_place.ensures ∙ p.r.given.1) ∙ as-board d
-
-pub sine_spec : {M : Type 1} → statement M
-sine_spec =
-    tie.close
-    (tie.spec
-    (λ c κs. search rules)
-    (λ c. search rules)
-    record-at-requires
-    sine-of-requires
-    (λ c. search rules)
-    returns
-    returns-2)
+pub returns-in-Refused : goal.returns-in-Refused
+returns-in-Refused c =
+    let d = (goal.at.returns-in-Refused c).Start in
+    when_refused d.args.places (bytes d) d.args.number (sine-by d) _ (sym c.formula_place.ensures ∙ c.in-Refused.is) ∙ as-board d

@@ -1,0 +1,13 @@
+-- `admit_odd`: within range, the last product's factor is a word, for it is B_0.
+use Rattle.whole.proofs.Basics.{sym, arith}
+use Rattle.stored.specs.Words.{words}
+use Rattle.polynomial.proofs.BoundLaws.{within_most}
+use Rattle.odd_even.proofs.SquareLaws.{square_told}
+use Rattle.odd_even.proofs.admit_odd.Goals as goal
+
+pub bound_product-requires : goal.bound_product-requires
+bound_product-requires c =
+    let a = c.args in
+    let ws = words a.b.now a.at a.m in
+    let low = c.in-Within.low in
+    (c.requires.0, omega (arith, within_most a.s _ ws low (square_told a.s a.most ws low (sym c.in-Within.ensures)).1))
