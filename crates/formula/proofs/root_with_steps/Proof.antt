@@ -24,16 +24,16 @@ module _ (c : tie.After-root-r) where
   abbrev v : ℕ
   v = nat_abs c.args.x * unit c.args.s
 
-  rooted-is : rooted c.root-r.result.root-r c.root-r.result.steps ≡ heron_of v
+  rooted-is : rooted c.root-r.result.root c.root-r.result.steps ≡ heron_of v
   rooted-is = c.root-r.ensures.0 ∙ ap (rooted_by c.args.s) (x-is c.before)
 
-  root_is : c.root-r.result.root-r ≡ root_of v
-  root_is = ap (λ (r : Rooted). r.root-r) rooted-is ∙ heron_is v
+  root_is : c.root-r.result.root ≡ root_of v
+  root_is = ap (λ (r : Rooted). r.root) rooted-is ∙ heron_is v
 
-  root-fits : SFits w32 (pos c.root-r.result.root-r)
-  root-fits = fit (n c.root-r.result.root-r) (omega (arith, root_is, root_most v (scaled_most (nat_abs c.args.x) c.args.s (omega (arith, c.requires.1)) c.requires.0.most)))
+  root-fits : SFits w32 (pos c.root-r.result.root)
+  root-fits = fit (n c.root-r.result.root) (omega (arith, root_is, root_most v (scaled_most (nat_abs c.args.x) c.args.s (omega (arith, c.requires.1)) c.requires.0.most)))
 
-  answer_is : worked (back w32 (pos c.root-r.result.root-r)) c.root-r.result.steps c.root-r.result.exact ≡ worked (root_word c.args.s c.args.x) (rooted_by c.args.s c.args.x).steps (exact_root c.args.s c.args.x)
+  answer_is : worked (back w32 (pos c.root-r.result.root)) c.root-r.result.steps c.root-r.result.exact ≡ worked (root_word c.args.s c.args.x) (rooted_by c.args.s c.args.x).steps (exact_root c.args.s c.args.x)
   answer_is =
       ap₂ (λ (w : ℤ) (k : ℕ). worked w k c.root-r.result.exact) (held (arg root-fits) ∙ ap pos root_is) (ap (λ (r : Rooted). r.steps) rooted-is)
       ∙ ap (worked (root_word c.args.s c.args.x) (rooted_by c.args.s c.args.x).steps) (c.root-r.ensures.1 ∙ ap (exact_root c.args.s) (x-is c.before))

@@ -1,4 +1,4 @@
--- `outward`: one step, and the walk from there on, with the marks joined.
+-- `fraction::outward` meets its contract: one step, and the walk from there on, with the marks joined. The depth j falls.
 use Rattle.whole.proofs.Basics.{◌≡◌, ◌∙◌, refl, Bool, List, ℕ, suc, ◌+◌, ◌-◌, ◌*◌, ◌≤◌, arith, ℤ, w32}
 use Rattle.whole.proofs.Fit.{fit_abs}
 use Rattle.whole.proofs.Held.{back, held, arg, known, given}

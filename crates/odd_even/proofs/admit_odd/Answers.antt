@@ -1,4 +1,4 @@
--- `admit_odd`: within range, the last product's factor is a word, for it is B_0.
+-- `odd_even::admit_odd` meets its contract: within range B_0 is a word, so that the last product's bound may be formed.
 use Rattle.whole.proofs.Basics.{sym, arith}
 use Rattle.stored.specs.Words.{words}
 use Rattle.polynomial.proofs.BoundLaws.{within_most}

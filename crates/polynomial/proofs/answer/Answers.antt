@@ -1,4 +1,4 @@
--- `answer` takes the coefficients from the last one down. A signed local holds bits, so that x is read there as `back w32 x`.
+-- `polynomial::answer` meets its contract: the coefficients are taken from the last one down. A signed local holds bits, so x is read there as `back w32 x`.
 use Rattle.whole.proofs.Basics.{◌≡◌, ◌∙◌, sym, ap, ap₂, subst, true, List, ℕ, suc, ◌+◌, ◌-◌, ◌*◌, ◌<◌, arith, length, drop, get_or, ℤ, pos, ◌+ℤ◌, w32, w64, SFits}
 use mathlib.Core.Bool.{◌&&◌}
 use lib.Bits.{bit_or}

@@ -1,4 +1,4 @@
--- `admit`: the bounds of the numerator and of the divisor's tail, then `admit_ratio`.
+-- `rational::admit` meets its contract: the bounds of the numerator and of the divisor's tail, then `admit_ratio`.
 use Rattle.whole.proofs.Basics.{◌≡◌, ◌∙◌, sym, ap, List, ℕ, ◌+◌, ◌-◌, ◌*◌, ◌<◌, arith, length, drop, get_or, pos, nat_abs, w32}
 use Rattle.whole.proofs.Held.{held_nat, given}
 use Rattle.stored.specs.Words.{words}
