@@ -23,7 +23,8 @@ done <"$room/read"
 change='import re, sys; text = sys.stdin.read(); sys.stdout.write(re.sub(sys.argv[1], sys.argv[2], text, count=1))'
 refused() { # WHAT PATTERN NEW
     python3 -c "$change" "$2" "$3" <"$room/code" >"$room/wrong"
-    if ! cmp -s "$room/code" "$room/wrong" && judge <"$room/wrong" | grep -q '^wrong'; then pass; else fail "not told: $1"; fi
+    judge <"$room/wrong" >"$room/judged"
+    if ! cmp -s "$room/code" "$room/wrong" && grep -q '^wrong' "$room/judged"; then pass; else fail "not told: $1"; fi
 }
 times='(\["multiply::times",.*?)'
 value='\{"Copy":\{"local":\d+,"steps":\[\]\}\}'
