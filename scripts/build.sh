@@ -69,8 +69,8 @@ compile() {
     done
     link_objects "$new/verbs" "${objects[@]}" "$library" && link_shared "$new/${shared##*/}" "$(shared_name)" "$library" || return 1
     mv "$new/listing" "$new/verbs" "$own" && mv "$library" "$new/${shared##*/}" "${archive%/*}" || return 1
-    # a name of an earlier version would give this one to programs that were compiled for that
-    rm -f "$shared".* && ln -s "${shared##*/}" "${shared%/*}/$(shared_name)" && rm -r "$new"
+    # A name of an earlier version would give this one to programs that were compiled for that. A copy, since rt takes no links.
+    rm -f "$shared".* && cp "$shared" "${shared%/*}/$(shared_name)" && rm -r "$new"
 }
 
 build() {

@@ -34,6 +34,7 @@ pub fn start_fault(b: &[u8]) -> u8
 }
 
 // The same count as the start's, and as many formulas (4).
+#[tactic(auto, unfolding(crate::specs::Faults::end_fault))]
 fn count_fault(seen: u16, count: u16, c: u16) -> u8
     ensures { result ≡ end_fault seen count c }
 {

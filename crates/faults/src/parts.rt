@@ -49,6 +49,7 @@ pub fn size_fault(row: Row, shape: Shape, n: usize) -> u8
 }
 
 // A formula too many (4), or a number not above the one before (5).
+#[tactic(auto, unfolding(crate::specs::Faults::order_fault))]
 pub fn order_fault(seen: u16, count: u16, next: u32, number: u16) -> u8
     ensures { result ≡ order_fault seen count next number }
 {

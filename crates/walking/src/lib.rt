@@ -95,6 +95,7 @@ fn after_formula(b: &[u8], w: Walk) -> Walk
     }
 }
 
+#[tactic(auto, unfolding(crate::specs::Walking::ending))]
 fn ending(w: Walk, place: usize, n: usize) -> Walked
     ensures { result ≡ ending w place n }
 {
