@@ -1,7 +1,6 @@
 -- What the bytes of one record say, by the row of its kind.
 use Rattle.std.specs.Prelude.{ℕ, ◌+◌, ◌-◌, ◌/◌, ◌≤◌, ◌≡◌, refl, List, [], ◌∷◌, ◌++◌, cond, eqb, length, take, drop, replicate, ℤ, pos, negsuc}
 use Rattle.stored.specs.Numbers.{number2, number4, word4}
-use Rattle.stored.specs.Words.{words}
 use Rattle.formula.specs.declared.Kind.{Kind}
 use Rattle.formula.specs.declared.Kind.TheVariants.{Polynomial, Rational}
 use Rattle.formula.specs.declared.Shape.{Shape}

@@ -3,7 +3,6 @@ use Rattle.whole.proofs.Basics.{◌≡◌, ap, List, ℕ, ◌≤◌, ◌<◌, ar
 use Rattle.whole.proofs.Order.{abs_least}
 use Rattle.word.specs.Words.{Word, NotZero, product_of, bound_quotient}
 use Rattle.word.proofs.WordLaws.{quotient_within}
-use Rattle.admission.specs.Admission.{apart}
 use Rattle.word.specs.Lists.{All}
 use Rattle.admission.specs.declared.Admission.TheVariants.{Admitted}
 use Rattle.admission.proofs.AdmissionLaws.{ranged_out, apart_out}

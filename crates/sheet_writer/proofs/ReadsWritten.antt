@@ -48,9 +48,9 @@ record Run (s : ℕ) (run : List ℕ) : Type 0 where
   some : 1 ≤ count
   shape : RunOf s count run
 
-run_of : (s : ℕ) (run : List ℕ) (room n : ℕ) → sheet_writing s run room ≡ Written n → Run s run
+run_of_lem : (s : ℕ) (run : List ℕ) (room n : ℕ) → sheet_writing s run room ≡ Written n → Run s run
 unfolding sheet_writing
-run_of s run room n e = at (eqb (scale_fault s) 0) refl (eqb (length run) 0) refl e
+run_of_lem s run room n e = at (eqb (scale_fault s) 0) refl (eqb (length run) 0) refl e
   where
     by : Scale s → (length run ≡ 0 → ⊥) → (x : Walked) → run_walked s run ≡ x → walked_writing x (length run) room ≡ Written n → Run s run
     by k h (Whole c f) q p =
@@ -66,7 +66,7 @@ run_of s run room n e = at (eqb (scale_fault s) 0) refl (eqb (length run) 0) ref
 
 pub reads_sheet : (s : ℕ) (run : List ℕ) (room n : ℕ) → sheet_writing s run room ≡ Written n → formula_count s (sheet_of s run) ≡ Count (records_in (run_walked s run))
 reads_sheet s run room n e =
-    let k = run_of s run room n e in
+    let k = run_of_lem s run room n e in
     let c = k.count in
     rw k.many (shape_count s c (sheet_bytes c run) (sheet_shape s c run k.scale k.some k.shape))
 

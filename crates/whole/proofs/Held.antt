@@ -1,6 +1,6 @@
 -- What a signed local holds. A signed local holds bits, so each operation of the code reads its operands back, `to_z w (of_z w x)`, and a goal nests these as deep as the code.
 -- `Held w x y` says that the code's number x, which still has these readings in it, is y, and that y fits: there is one rule for each operation, which takes the operands' facts and that the result fits.
--- `h.fits-code` answers the need of the operation itself, and `held h ∙ ..` a `returns`.
+-- `fits_code h` answers the need of the operation itself, and `held h ∙ ..` a `returns`.
 use Rattle.whole.proofs.Basics.{◌≡◌, ◌∙◌, refl, sym, ap, ap₂, subst, Bool, true, false, not, ℕ, suc, zero, ◌+◌, ◌-◌, ◌*◌, ◌%◌, ◌^◌, ◌≤◌, ◌<◌, arith, T, ltb, leb, ℤ, pos, negsuc, nat_abs, neg_ℤ, ◌+ℤ◌, ◌-ℤ◌, ◌*ℤ◌, ◌≤ℤ◌, ◌<ℤ◌, lt_z, SFits, to_z, of_z, to_z-of_z}
 use native.Mathlib.Nat.{add-mul-mod_self_left, mod-eq_of_lt}
 use lib.IntN.{+ℤ_idl}
