@@ -10,7 +10,8 @@ each a value of a 16-bit type or one that was widened from it, and stand in one
 of the FUNCTIONs; or it is a place's, by 2, 4 or 8, the sizes of what is
 counted. No doubles are multiplied. For each multiplication, and for each
 FUNCTION that has none, there is a line on standard output: `right` or `wrong`,
-the function, and what it multiplies.
+the function, and what it multiplies. A function that is reached and stands in
+neither is `wrong` too.
 """
 
 import json
@@ -36,14 +37,14 @@ def nodes(tree, name):
 
 
 def reached(ours, kit):
-    """Our functions, and those of the kit's that they reach."""
+    """Our functions, and those of the kit's that they reach; None for one that
+    stands in neither."""
     found, todo = {}, list(ours)
     while todo:
         name = todo.pop()
-        if name in found or name not in ours and name not in kit:
-            continue
-        found[name] = ours.get(name, kit.get(name))
-        todo += [called[0] for called in nodes(found[name], "Fn")]
+        if name not in found:
+            found[name] = ours.get(name, kit.get(name))
+            todo += [called[0] for called in nodes(found[name], "Fn")]
     return found
 
 
@@ -97,6 +98,9 @@ def shown(operand):
 def multiplications(code, allowed):
     """Each multiplication as a verdict, its function and its factors."""
     for name, item in sorted(code.items()):
+        if item is None:
+            yield "wrong", name, "cannot be read"
+            continue
         for operation, *factors in nodes(item["body"], "Op2"):
             if "Mul" not in str(operation):
                 continue

@@ -8,7 +8,7 @@ need_library
 judge() { python3 tests/multiply.py "$kit/rlibs/core.rlib/toolchain/mir.json" multiply::times; }
 
 # The code before any pass of the compiler, since on a machine with a wide multiply it puts the halves together again: of each
-# library that the archive is made of. The archive's own functions only call, which is seen below.
+# library that the archive is made of. Of the archive's own functions none is kept; they only call, as their source shows.
 . scripts/build.sh
 for crate in $(crates_below valvepigeon); do
     code=crates/$crate/out/rlib/$crate.rlib/toolchain/mir.json
@@ -18,6 +18,10 @@ judge <"$room/code" >"$room/read" || fail 'tests/multiply.py has read no multipl
 while read -r verdict what; do
     if [ "$verdict" = right ]; then pass; else fail "$what"; fi
 done <"$room/read"
+
+own_code() { sed '/^ghost use/d; /^ *\(requires\|ensures\)/d; s://.*::' crates/valvepigeon/src/lib.rt; }
+is "functions in the source of the archive's own" "$(own_code | grep -c 'extern "C" fn vp_')" 9
+is "lines that multiply in it" "$(own_code | grep -cF '*')" 0
 
 # The same code made wrong, where it first has the pattern, is told.
 change='import re, sys; text = sys.stdin.read(); sys.stdout.write(re.sub(sys.argv[1], sys.argv[2], text, count=1))'
@@ -35,6 +39,7 @@ refused 'a multiplication that is an addition' "$times"'\{"Mul":"Unsigned"\}' '\
 refused 'a multiplication in another function' '\["multiply::times",' '["multiply::other",'
 refused 'a sum of two numbers that is a product' '\{"Add":"Unsigned"\}'"(,$value,$value)" '{"Mul":"Unsigned"}\1'
 refused 'a step of 16' '(\{"Mul":"Unsigned"\},[^]]*?\]?[^]]*?"value":)4\}' '\g<1>16}'
+refused 'a call of what cannot be read' '"Fn":\["word::magnitude"' '"Fn":["word::other"'
 refused 'a product of doubles' '"FloatDiv"' '"FloatMul"'
 
 # A disassembler for x86-64, where there is one.

@@ -33,7 +33,7 @@ fn first_step(v: u64) -> u32
 // Heron's rule for v. The start is above the root, so the first step always falls, and stands before the loop.
 // The rule ends when the new number, (w + q) / 2, is not below w; that is so exactly when q is not below w.
 // It cannot wait for two numbers that agree: just below a square they swing between two for ever, as for 8 between 2 and 3.
-// `less` is w - 1, in 32 bits: so the compiler knows that the divisor `less + 1` is not 0, and need not test it, and that it is short.
+// `less` is w - 1, in 32 bits: so the divisor `less + 1` is short, and a compiler that knows the sum not to wrap need not test it for 0.
 fn heron(v: u64) -> Rooted
     requires { v < 2 ^ 60 }
     ensures { result ≡ heron_of v }

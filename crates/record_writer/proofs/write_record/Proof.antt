@@ -1,10 +1,5 @@
 -- `record_writer::write_record` meets its contract: no formula (3), the scale's fault, the counts', and what the reader's check makes of the record.
-use Rattle.whole.proofs.Basics.{◌≡◌, ◌∙◌, refl, sym, ap, subst, List, ℕ, ◌≤◌, arith, length, take, get_or, ℤ, pos, w32, SFits, rules, eq-eqb}
-use mathlib.Core.List.{map-id}
-use mir.Val.{Val}
-use denote.Array.{each}
-use denote.Shadow.{shadow}
-use denote.Signed.{SInt}
+use Rattle.whole.proofs.Basics.{◌≡◌, ◌∙◌, refl, sym, ap, List, ℕ, ◌≤◌, arith, length, take, get_or, pos, w32, SFits, rules, eq-eqb}
 use lib.ListN.{replicate}
 use lib.Seq.{sets, length-sets, length-take-le}
 use Rattle.formula.specs.declared.Formula.{Formula}
@@ -17,16 +12,11 @@ use Rattle.faults.proofs.ScaleLaws.{good_scale}
 use Rattle.records.specs.Records.{only_formula}
 use Rattle.record_writer.specs.Answers.{refused_by, buffer_after}
 use Rattle.record_writer.specs.RecordWriter.{plain_writing, judged_writing, counts_fault, bytes_of}
-use Rattle.record_writer.proofs.Elements.{field_element}
+use Rattle.record_writer.proofs.Elements.{element}
 use Rattle.record_writer.proofs.RecordFaults.{short_record}
 use Rattle.record_writer.proofs.RecordWriting.{tidy, judged, front_taken, put_none, put_some, at_code, at_no_code}
 use Rattle.record_writer.proofs.write_record.Statement.{statement}
 use Rattle.record_writer.proofs.write_record.Tie as tie
-
--- the words lie in the formula as they are
-element : (xs : List ℤ) (us : List Val) (i : ℕ) → shadow (each ℤ (SInt w32).own_val xs us) → SFits w32 (get_or xs i (pos 0))
-element xs us i p =
-    field_element xs us i (subst (λ (ys : List ℤ). shadow (each ℤ (SInt w32).own_val ys us)) (sym (map-id xs)) p)
 
 each_fits : (s : tie.Start) (k : ℕ) → SFits w32 (get_or s.args.f.words k (pos 0))
 each_fits s k = search (rules, element)
