@@ -1,5 +1,5 @@
-# The kit's own tools, for bash; needs `rt` on the path. What rt compiles is for x86-64; on another machine it runs under an
-# emulator, where the kit has one.
+# The kit's own tools, for bash; needs `rt` on the path. What rt compiles is for x86-64; on another machine it runs
+# under the kit's emulator, which rattle-kit-13f has not.
 kit=${RATTLE_HOME:-$(dirname "$(dirname "$(readlink -f "$(command -v rt)")")")}
 tools=$kit/toolchain
 
