@@ -1,7 +1,7 @@
 """Reads what the crates state, and prints what is missing.
 
 contracts: every public function of the library's face has an `ensures` and no
-           `requires`.
+           `requires`, and every `From` says what it gives.
 named:     every public definition of specs/ is named by a worked example, by
            the statement of a law, or by docs/PROMISES.md; or it says what a
            function of a lower layer asks of its callers.
@@ -30,9 +30,9 @@ def text_of(path):
 
 
 def functions(source):
-    """Each public function with what stands between its name and its body,
-    which begins with a brace that ends a line."""
-    for found in re.finditer(r'^pub (?:extern "C" )?fn (\w+)(.*?)(?:^| )\{$',
+    """Each public function or method with what stands between its name and its
+    body, which begins with a brace that ends a line."""
+    for found in re.finditer(r'^ *pub (?:extern "C" )?fn (\w+)(.*?)(?:^ *| )\{$',
                              source, re.MULTILINE | re.DOTALL):
         yield found.group(1), found.group(2)
 
@@ -51,6 +51,10 @@ def contracts():
                     yield False, f"{path}: {name} states nothing"
                 else:
                     yield True, f"{path}: {name}"
+            for found in re.finditer(r"^(impl From<.*?) \{$(.*?)^\}$", text_of(path),
+                                     re.MULTILINE | re.DOTALL):
+                stated = "ghost from_gives = {" in found.group(2)
+                yield stated, f"{path}: {found.group(1)}" + ("" if stated else " states nothing")
 
 
 def declarations(path):

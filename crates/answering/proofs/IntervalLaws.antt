@@ -6,9 +6,8 @@ use Rattle.formula.specs.declared.Formula.{Formula}
 use Rattle.formula.specs.Formula.{worked_of, Answerable}
 use Rattle.layout.specs.Fields.{words_in}
 use Rattle.sheet.specs.Reader.{Fit}
-use Rattle.answering.specs.Answering.{refused, answer_at}
-use Rattle.answering.specs.declared.answers.Evaluation.{Evaluation}
-use Rattle.answering.specs.declared.answers.Evaluation.TheVariants.{Answered}
+use Rattle.answering.specs.Answering.{refused, answer_at, Evaluation}
+use Rattle.std.specs.Prelude.{Ok}
 
 is_true : (b : Bool) → T b → b ≡ true
 is_true true t = refl
@@ -26,7 +25,7 @@ not_below {x} {y} h = is_false (lt_z x y) (λ t. clash_ℤ (record { lt = t }) h
 
 module _ (s : ℕ) (f : Formula) (x : ℤ) where
   abbrev within : Evaluation
-  within = Answered (worked_of s f.shape (words_in f) x)
+  within = Ok (worked_of s f.shape (words_in f) x)
 
   pub below_low : x <ℤ f.lo → refused 10 ≡ answer_at s f x
   unfolding answer_at
@@ -52,7 +51,7 @@ module _ (s : ℕ) (f : Formula) (x : ℤ) where
     answerable h b k = record { scale = b; lo = f.lo; hi = f.hi; sound = k.sound; admitted = k.admitted; above = l; below = h }
 
 -- what holds outside the interval and inside holds of every argument
-pub at_argument : (P : Evaluation → Type 0) (s : ℕ) (f : Formula) (x : ℤ) → Scale s → Fit s f → P (refused 10) → (Answerable s f.shape (words_in f) x → P (Answered (worked_of s f.shape (words_in f) x))) → P (answer_at s f x)
+pub at_argument : (P : Evaluation → Type 0) (s : ℕ) (f : Formula) (x : ℤ) → Scale s → Fit s f → P (refused 10) → (Answerable s f.shape (words_in f) x → P (Ok (worked_of s f.shape (words_in f) x))) → P (answer_at s f x)
 unfolding answer_at
 at_argument P s f x scale fits outside own = at (lt_z x f.lo) (lt_z f.hi x) refl refl
   where

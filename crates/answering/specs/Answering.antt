@@ -1,5 +1,5 @@
 -- One formula at one argument: 10 outside its interval, else its answer. The binary places are s.
-use Rattle.std.specs.Prelude.{◌≡◌, refl, Bool, true, false, cond, ◌&&◌, [], ◌∷◌, ℕ, ℤ, pos, negsuc}
+use Rattle.std.specs.Prelude.{◌≡◌, refl, Bool, true, false, cond, ◌&&◌, [], ◌∷◌, ℕ, ℤ, pos, negsuc, Err, Ok, Result}
 use Rattle.std.specs.Int.Signed.{lt_z}
 use Rattle.word.specs.Rounded.{rounded}
 use Rattle.formula.specs.declared.Kind.TheVariants.{Polynomial, Root}
@@ -9,63 +9,61 @@ use Rattle.formula.specs.Exact.{exact_by}
 use Rattle.polynomial.specs.Polynomial.{horner}
 use Rattle.polynomial.specs.Exact.{polynomial_exact}
 use Rattle.layout.specs.Fields.{shape, padded, formula, words_in}
-use Rattle.faults.specs.Guard.{refusal}
-use Rattle.answering.specs.declared.answers.Evaluation.{Evaluation}
-use Rattle.answering.specs.declared.answers.Evaluation.TheVariants.{Answered, Refused}
+use Rattle.refusal.specs.Guard.{refusal, refused_number, refused_place}
+use Rattle.formula.specs.declared.Worked.{Worked}
+use Rattle.refusal.specs.declared.Refusal.{Refusal}
 
--- ---- the paper's number, place, word and steps of each case, 0 where there is none; and whether it is exact, which no refusal is
-abbrev pub evaluation_number : Evaluation → ℕ
-evaluation_number (Answered w) = 0
-evaluation_number (Refused r) = r.number
-
-abbrev pub evaluation_place : Evaluation → ℕ
-evaluation_place (Answered w) = 0
-evaluation_place (Refused r) = r.place
+-- ---- what evaluation answers; the word and the steps of each case, 0 where there is none; and whether it is exact, which no refusal is
+abbrev pub Evaluation : Type 0
+Evaluation = Result Worked Refusal
 
 abbrev pub evaluation_word : Evaluation → ℤ
-evaluation_word (Answered w) = w.word
-evaluation_word (Refused r) = pos 0
+evaluation_word (Ok w) = w.word
+evaluation_word (Err r) = pos 0
 
 abbrev pub evaluation_steps : Evaluation → ℕ
-evaluation_steps (Answered w) = w.steps
-evaluation_steps (Refused r) = 0
+evaluation_steps (Ok w) = w.steps
+evaluation_steps (Err r) = 0
 
 abbrev pub evaluation_exact : Evaluation → Bool
-evaluation_exact (Answered w) = w.exact
-evaluation_exact (Refused r) = false
+evaluation_exact (Ok w) = w.exact
+evaluation_exact (Err r) = false
 
 -- 10 to 13 give place 0
 abbrev pub refused : ℕ → Evaluation
-refused number = Refused (refusal 0 number)
+refused number = Err (refusal 0 number)
 
 abbrev pub answered : ℤ → ℕ → Bool → Evaluation
-answered w n e = Answered (worked w n e)
+answered w n e = Ok (worked w n e)
 
 -- an argument that was rounded itself makes a rounded answer
+abbrev pub marked : Bool → Worked → Worked
+marked exact w = worked w.word w.steps (exact && w.exact)
+
 abbrev pub with_mark : Bool → Evaluation → Evaluation
-with_mark exact (Answered w) = answered w.word w.steps (exact && w.exact)
-with_mark exact (Refused r) = Refused r
+with_mark exact (Ok w) = Ok (marked exact w)
+with_mark exact (Err r) = Err r
 
 -- ---- argument outside lo..hi, both ends inside (10), else the kind's own answer, its steps and its mark
 unfoldable pub answer_at : ℕ → Formula → ℤ → Evaluation
 answer_at s f x =
     cond (lt_z x f.lo) (refused 10)
     (cond (lt_z f.hi x) (refused 10)
-    (Answered (worked_of s f.shape (words_in f) x)))
+    (Ok (worked_of s f.shape (words_in f) x)))
 
 -- ---- worked examples: what an answer and a refusal tell
 told :
-    (evaluation_number (answered (pos 3) 5 true) ≡ 0)
-    × (evaluation_place (answered (pos 3) 5 true) ≡ 0)
+    (refused_number (answered (pos 3) 5 true) ≡ 0)
+    × (refused_place (answered (pos 3) 5 true) ≡ 0)
     × (evaluation_word (answered (pos 3) 5 true) ≡ pos 3)
     × (evaluation_steps (answered (pos 3) 5 true) ≡ 5)
     × (evaluation_exact (answered (pos 3) 5 true) ≡ true)
     × (evaluation_exact (answered (pos 3) 5 false) ≡ false)
-    × (evaluation_number (Refused (refusal 8 7)) ≡ 7)
-    × (evaluation_place (Refused (refusal 8 7)) ≡ 8)
-    × (evaluation_word (Refused (refusal 8 7)) ≡ pos 0)
-    × (evaluation_steps (Refused (refusal 8 7)) ≡ 0)
-    × (evaluation_exact (Refused (refusal 8 7)) ≡ false)
+    × (refused_number {A = Worked} (Err (refusal 8 7)) ≡ 7)
+    × (refused_place {A = Worked} (Err (refusal 8 7)) ≡ 8)
+    × (evaluation_word (Err (refusal 8 7)) ≡ pos 0)
+    × (evaluation_steps (Err (refusal 8 7)) ≡ 0)
+    × (evaluation_exact (Err (refusal 8 7)) ≡ false)
 told = (refl, refl, refl, refl, refl, refl, refl, refl, refl, refl, refl)
 
 -- both have to be exact, the argument and the answer

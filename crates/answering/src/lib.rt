@@ -8,42 +8,30 @@ ghost use Rattle.table.specs.declared.Class.TheVariants.{FormulaRecord};
 ghost use Rattle.layout.specs.Fields.{row_for, shape_of, words_of};
 ghost use Rattle.records.specs.Sheets.{RecordOf, FormulaBytes};
 ghost use Rattle.sheet.specs.Reader.{formula_in};
-ghost use Rattle.answering.specs.Answering.{refused, with_mark, answer_at};
+ghost use Rattle.answering.specs.Answering.{marked, answer_at};
 
-pub mod answers;
-
-use answers::Evaluation;
-use faults::Refusal;
 use formula::Worked;
-
-pub fn refused(number: u8) -> Evaluation
-    ensures { result ≡ refused number }
-{
-    Evaluation::Refused(Refusal { number, place: 0 })
-}
+use refusal::{Fault, Refusal};
 
 fn worked_at(b: &[u8], x: i32, s: u32) -> Worked
     requires { RecordOf FormulaRecord b.now × Answerable s (shape_of (row_for b.now) b.now) (words_of (row_for b.now) b.now) x }
     ensures { result ≡ worked_of s (shape_of (row_for b.now) b.now) (words_of (row_for b.now) b.now) x }
 {
     let row = table::row_of(layout::code(b));
-    formula::answer(b, row.head, layout::shape_of(b, row), x, s)
+    formula::answer(layout::words(b, row), layout::shape_of(b, row), x, s)
 }
 
 // The formula's answer where x lies in its interval, both ends inside.
-pub fn answer_of(b: &[u8], x: i32, s: u32) -> Evaluation
+pub fn answer_of(b: &[u8], x: i32, s: u32) -> Result<Worked, Refusal>
     requires { Scale s × FormulaBytes s b.now }
     ensures { result ≡ answer_at s (formula_in b.now) x }
 {
-    if x < layout::lo(b) {
-        return refused(10);
-    }
-    if layout::hi(b) < x {
-        return refused(10);
+    if x < layout::lo(b) || layout::hi(b) < x {
+        return Err(Refusal::from(Fault::Outside));
     }
     // Field by field: copied as one the struct is packed into a single number, which costs every kind instructions.
     let w = worked_at(b, x, s);
-    Evaluation::Answered(Worked {
+    Ok(Worked {
         word: w.word,
         steps: w.steps,
         exact: w.exact,
@@ -51,15 +39,12 @@ pub fn answer_of(b: &[u8], x: i32, s: u32) -> Evaluation
 }
 
 // The answer with its argument's own rounding counted: it stays exact only where the argument is exact too.
-pub fn with_mark(e: Evaluation, exact: bool) -> Evaluation
-    ensures { result ≡ with_mark exact e }
+pub fn with_mark(answer: Worked, exact: bool) -> Worked
+    ensures { result ≡ marked exact answer }
 {
-    match e {
-        Evaluation::Answered(a) => Evaluation::Answered(Worked {
-            word: a.word,
-            steps: a.steps,
-            exact: exact & a.exact,
-        }),
-        Evaluation::Refused(r) => Evaluation::Refused(r),
+    Worked {
+        word: answer.word,
+        steps: answer.steps,
+        exact: exact & answer.exact,
     }
 }

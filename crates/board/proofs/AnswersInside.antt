@@ -10,17 +10,17 @@ use Rattle.formula.specs.declared.Kind.TheVariants.{Odd}
 use Rattle.formula.specs.Formula.{answer_of, answer_by, worked_of, numbers_of, numbers_by, divisors_of, Answerable}
 use Rattle.formula.proofs.StaysInRange.{formula_stays}
 use Rattle.layout.specs.Fields.{words_in}
-use Rattle.sheet.specs.Reader.{formula_read, HasFormula}
-use Rattle.sheet.specs.declared.answers.Found.{Found}
+use Rattle.sheet.specs.Reader as reader
+use Rattle.sheet.specs.Reader.{formula_read, HasFormula, Reading}
 use Rattle.sheet.proofs.FormulasGiven.{given_scale, given_fits, given_found}
-use Rattle.answering.specs.Answering.{evaluation_number, evaluation_place, refused, answer_at}
-use Rattle.answering.specs.declared.answers.Evaluation.{Evaluation}
-use Rattle.answering.specs.declared.answers.Evaluation.TheVariants.{Answered}
+use Rattle.answering.specs.Answering.{refused, answer_at, Evaluation}
 use Rattle.answering.proofs.IntervalLaws.{below_low, above_high, inside, answerable}
 use Rattle.board.specs.Board.{when_given, evaluated}
+use Rattle.refusal.specs.Guard.{refused_number, refused_place}
+use Rattle.std.specs.Prelude.{Ok}
 
 abbrev pub formula_given : ℕ → List ℕ → ℕ → Formula
-formula_given s bytes n = (formula_read s bytes n).formula
+formula_given s bytes n = reader.formula_given (formula_read s bytes n)
 
 -- the formula n of an accepted sheet that has it
 module _ (s : ℕ) (bytes : List ℕ) (n : ℕ) (given : HasFormula s bytes n) where
@@ -28,8 +28,8 @@ module _ (s : ℕ) (bytes : List ℕ) (n : ℕ) (given : HasFormula s bytes n) w
   f = formula_given s bytes n
 
   -- the board's answer is then the formula's
-  pub by_formula : (e : Evaluation) → when_given (formula_read s bytes n).found e ≡ e
-  by_formula e = ap (λ (a : Found). when_given a e) (given_found s bytes n given)
+  pub by_formula : (e : Evaluation) → when_given (formula_read s bytes n) e ≡ e
+  by_formula e = ap (λ (a : Reading). when_given a e) (given_found s bytes n given)
 
   pub refuses_below : (x : ℤ) → x <ℤ f.lo → evaluated s bytes n x ≡ refused 10
   refuses_below x h = by_formula (answer_at s f x) ∙ sym (below_low s f x h)
@@ -38,12 +38,12 @@ module _ (s : ℕ) (bytes : List ℕ) (n : ℕ) (given : HasFormula s bytes n) w
   refuses_above x h = by_formula (answer_at s f x) ∙ sym (above_high s f x h)
 
   -- by the paper's number and place: every argument outside gets 10 and nothing else
-  pub refuses_outside : (x : ℤ) → (x <ℤ f.lo) ⊎ (f.hi <ℤ x) → (evaluation_number (evaluated s bytes n x) ≡ 10) × (evaluation_place (evaluated s bytes n x) ≡ 0)
+  pub refuses_outside : (x : ℤ) → (x <ℤ f.lo) ⊎ (f.hi <ℤ x) → (refused_number (evaluated s bytes n x) ≡ 10) × (refused_place (evaluated s bytes n x) ≡ 0)
   refuses_outside x (inl h) = rw (refuses_below x h) (refl, refl)
   refuses_outside x (inr h) = rw (refuses_above x h) (refl, refl)
 
   module _ (x : ℤ) (l : f.lo ≤ℤ x) (h : x ≤ℤ f.hi) where
-    pub answers_inside : evaluated s bytes n x ≡ Answered (worked_of s f.shape (words_in f) x)
+    pub answers_inside : evaluated s bytes n x ≡ Ok (worked_of s f.shape (words_in f) x)
     answers_inside = by_formula (answer_at s f x) ∙ sym (inside s f x l h)
 
     -- and no rounded product, quotient or sum on the way leaves the word range, nor is a divisor 0

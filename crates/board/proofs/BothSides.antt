@@ -6,8 +6,7 @@ use Rattle.formula.specs.Parity.{OddFormula, EvenFormula}
 use Rattle.formula.proofs.BothSides.{formula_negated, formula_same, odd_no_steps, even_no_steps, formula_mark_negated, formula_mark_same}
 use Rattle.layout.specs.Fields.{words_in}
 use Rattle.sheet.specs.Reader.{HasFormula}
-use Rattle.answering.specs.Answering.{answered, evaluation_word, evaluation_exact}
-use Rattle.answering.specs.declared.answers.Evaluation.{Evaluation}
+use Rattle.answering.specs.Answering.{answered, evaluation_word, evaluation_exact, Evaluation}
 use Rattle.board.specs.Board.{evaluated}
 use Rattle.board.proofs.AnswersInside.{formula_given, answers_inside}
 

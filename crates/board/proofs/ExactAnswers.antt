@@ -8,10 +8,9 @@ use Rattle.formula.specs.declared.Formula.{Formula}
 use Rattle.formula.specs.Exact.{ValueOf}
 use Rattle.formula.proofs.ExactAnswer.{formula_exact}
 use Rattle.layout.specs.Fields.{words_in}
-use Rattle.sheet.specs.Reader.{Fit, formula_read}
+use Rattle.sheet.specs.Reader.{Fit, formula_read, formula_given}
 use Rattle.sheet.proofs.FormulasGiven.{given_scale, given_fits}
-use Rattle.answering.specs.Answering.{evaluation_word, evaluation_exact, answer_at}
-use Rattle.answering.specs.declared.answers.Evaluation.{Evaluation}
+use Rattle.answering.specs.Answering.{evaluation_word, evaluation_exact, answer_at, Evaluation}
 use Rattle.answering.proofs.IntervalLaws.{at_argument}
 use Rattle.board.specs.Board.{evaluated}
 use Rattle.board.proofs.ReadingLaws.{given_or_refused}
@@ -23,7 +22,7 @@ ExactIs s f x e = evaluation_exact e ≡ true → ValueOf s f.shape (words_in f)
 pub argument_exact_lem : (s : ℕ) (f : Formula) (x : ℤ) → Scale s → Fit s f → ExactIs s f x (answer_at s f x)
 argument_exact_lem s f x scale fits = at_argument (ExactIs s f x) s f x scale fits (λ t. absurd (false≢true t)) (formula_exact s f.shape (words_in f) x)
 
-pub sheet_exact : (s : ℕ) (bytes : List ℕ) (n : ℕ) (x : ℤ) → ExactIs s (formula_read s bytes n).formula x (evaluated s bytes n x)
+pub sheet_exact : (s : ℕ) (bytes : List ℕ) (n : ℕ) (x : ℤ) → ExactIs s (formula_given (formula_read s bytes n)) x (evaluated s bytes n x)
 sheet_exact s bytes n x =
-    let f = (formula_read s bytes n).formula in
+    let f = (formula_given (formula_read s bytes n)) in
     given_or_refused (ExactIs s f x) s bytes n (answer_at s f x) (λ r t. absurd (false≢true t)) (λ g. argument_exact_lem s f x (given_scale s bytes n g) (given_fits s bytes n g).0)

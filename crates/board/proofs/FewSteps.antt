@@ -6,7 +6,7 @@ use Rattle.formula.specs.declared.Kind.TheVariants.{Root}
 use Rattle.formula.specs.Formula.{steps_by, Answerable}
 use Rattle.formula.proofs.FewSteps.{other_kinds, formula_steps, none_at_zero}
 use Rattle.layout.specs.Fields.{words_in}
-use Rattle.sheet.specs.Reader.{formula_read}
+use Rattle.sheet.specs.Reader.{formula_read, formula_given}
 use Rattle.sheet.proofs.FormulasGiven.{given_scale, given_fits}
 use Rattle.answering.specs.Answering.{evaluation_steps, answer_at}
 use Rattle.answering.proofs.IntervalLaws.{at_argument}
@@ -15,7 +15,7 @@ use Rattle.board.proofs.ReadingLaws.{given_or_refused}
 
 module _ (s : ℕ) (bytes : List ℕ) (n : ℕ) where
   abbrev f : Formula
-  f = (formula_read s bytes n).formula
+  f = (formula_given (formula_read s bytes n))
 
   -- a refusal tells no steps, and an answer its kind's own
   sheet_tells : (P : ℕ → Type 0) (x : ℤ) → P 0 → (Answerable s f.shape (words_in f) x → P (steps_by f.shape.kind s x)) → P (evaluation_steps (evaluated s bytes n x))

@@ -4,15 +4,13 @@
 ghost use Rattle.std.specs.Prelude.{◌≡◌};
 ghost use Rattle.board.specs.Board.{evaluated};
 
-use answering::answers::Evaluation;
-use sheet::answers::Place;
+use formula::Worked;
+use refusal::Refusal;
 use sheet::reader;
 
-pub fn evaluate(s: &[u8], number: u16, x: i32, places: u32) -> Evaluation
+pub fn evaluate(s: &[u8], number: u16, x: i32, places: u32) -> Result<Worked, Refusal>
     ensures { result ≡ evaluated places s.now number x }
 {
-    match reader::formula_place(s, number, places) {
-        Place::At(place) => answering::answer_of(layout::record_at(s, place), x, places),
-        Place::Refused(r) => Evaluation::Refused(r),
-    }
+    let place = reader::formula_place(s, number, places)?;
+    answering::answer_of(layout::record_at(s, place), x, places)
 }

@@ -1,24 +1,24 @@
 -- Promise: each conversion to C's structs asks nothing of its caller, and settles its result: two results that satisfy its contract are equal.
 use Rattle.whole.proofs.Basics.{◌∙◌, sym}
 use Rattle.whole.proofs.Settled.{AsksNothing, Settled}
-use Rattle.c_answers.proofs.conversions.counted.Kinds as counted-kinds
-use Rattle.c_answers.proofs.conversions.counted.Reads as counted-reads
-use Rattle.c_answers.proofs.conversions.found.Kinds as found-kinds
-use Rattle.c_answers.proofs.conversions.found.Reads as found-reads
-use Rattle.c_answers.proofs.conversions.worked.Kinds as worked-kinds
-use Rattle.c_answers.proofs.conversions.worked.Reads as worked-reads
-use Rattle.c_answers.proofs.conversions.shown.Kinds as shown-kinds
-use Rattle.c_answers.proofs.conversions.shown.Reads as shown-reads
-use Rattle.c_answers.proofs.conversions.spanned.Kinds as spanned-kinds
-use Rattle.c_answers.proofs.conversions.spanned.Reads as spanned-reads
-use Rattle.c_answers.proofs.conversions.written.Kinds as written-kinds
-use Rattle.c_answers.proofs.conversions.written.Reads as written-reads
-use Rattle.c_answers.proofs.fields.fields_of.Kinds as fields-of-kinds
-use Rattle.c_answers.proofs.fields.fields_of.Reads as fields-of-reads
-use Rattle.c_answers.proofs.fields.no_fields.Kinds as no-fields-kinds
-use Rattle.c_answers.proofs.fields.no_fields.Reads as no-fields-reads
-use Rattle.c_answers.proofs.fields.formula_by.Kinds as formula-by-kinds
-use Rattle.c_answers.proofs.fields.formula_by.Reads as formula-by-reads
+use Rattle.c_answers.proofs.conversions.CountedFormulasFromResultU16Refusal.from.Kinds as counted-kinds
+use Rattle.c_answers.proofs.conversions.CountedFormulasFromResultU16Refusal.from.Reads as counted-reads
+use Rattle.c_answers.proofs.conversions.FoundFieldsFromResultFormulaRefusal.from.Kinds as found-kinds
+use Rattle.c_answers.proofs.conversions.FoundFieldsFromResultFormulaRefusal.from.Reads as found-reads
+use Rattle.c_answers.proofs.conversions.WorkedWordFromResultWorkedRefusal.from.Kinds as worked-kinds
+use Rattle.c_answers.proofs.conversions.WorkedWordFromResultWorkedRefusal.from.Reads as worked-reads
+use Rattle.c_answers.proofs.conversions.ShownValueFromResultShownRefusal.from.Kinds as shown-kinds
+use Rattle.c_answers.proofs.conversions.ShownValueFromResultShownRefusal.from.Reads as shown-reads
+use Rattle.c_answers.proofs.conversions.IntervalEndsFromResultEndsRefusal.from.Kinds as spanned-kinds
+use Rattle.c_answers.proofs.conversions.IntervalEndsFromResultEndsRefusal.from.Reads as spanned-reads
+use Rattle.c_answers.proofs.conversions.WrittenLengthFromResultUsizeRefusal.from.Kinds as written-kinds
+use Rattle.c_answers.proofs.conversions.WrittenLengthFromResultUsizeRefusal.from.Reads as written-reads
+use Rattle.c_answers.proofs.fields.FieldsFromFormula.from.Kinds as fields-of-kinds
+use Rattle.c_answers.proofs.fields.FieldsFromFormula.from.Reads as fields-of-reads
+use Rattle.c_answers.proofs.answers.Fields.none.Kinds as no-fields-kinds
+use Rattle.c_answers.proofs.answers.Fields.none.Reads as no-fields-reads
+use Rattle.c_answers.proofs.fields.FormulaFromFields.from.Kinds as formula-by-kinds
+use Rattle.c_answers.proofs.fields.FormulaFromFields.from.Reads as formula-by-reads
 
 pub counted_asks_nothing : AsksNothing counted-kinds.ps counted-reads.Asked
 counted_asks_nothing κs a = tt

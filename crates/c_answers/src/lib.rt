@@ -2,5 +2,5 @@
 #![tactic(auto)]
 
 pub mod answers;
-pub mod conversions;
-pub mod fields;
+mod conversions;
+mod fields;

@@ -7,22 +7,17 @@ use Rattle.word.specs.Words.{Scale}
 use Rattle.formula.specs.declared.Formula.{Formula}
 use Rattle.formula.specs.Exact.{ValueOf}
 use Rattle.door.specs.Exact.{Exactly}
-use Rattle.door.specs.Taken.{taken_of, ValueIs}
-use Rattle.door.specs.declared.answer.Taken.{Taken}
-use Rattle.door.specs.declared.answer.Taken.TheVariants.{Word as Took, NoWord, NotFinite}
+use Rattle.door.specs.Taken.{taken_of, ValueIs, Taken, took}
 use Rattle.door.proofs.ExactArgument.{taken_exact_lem}
 use Rattle.layout.specs.Fields.{words_in}
-use Rattle.sheet.specs.Reader.{Fit, formula_read}
+use Rattle.sheet.specs.Reader.{Fit, formula_read, formula_given}
 use Rattle.sheet.proofs.FormulasGiven.{given_scale, given_fits}
-use Rattle.answering.specs.Answering.{evaluation_word, evaluation_exact, answer_at}
-use Rattle.answering.specs.declared.answers.Evaluation.{Evaluation}
-use Rattle.answering.specs.declared.answers.Evaluation.TheVariants.{Answered, Refused}
+use Rattle.answering.specs.Answering.{evaluation_word, evaluation_exact, answer_at, Evaluation}
 use Rattle.answering.proofs.MarkLaws.{marked_word, both_exact}
 use Rattle.board.proofs.ReadingLaws.{given_or_refused}
 use Rattle.board.proofs.ExactAnswers.{argument_exact_lem}
-use Rattle.desk.specs.Desk.{shown_value, shown_exact, taken_by, taken_at, evaluated_double, ShownAs}
-use Rattle.desk.specs.declared.answers.Shown.{Shown}
-use Rattle.desk.specs.declared.answers.Shown.TheVariants.{Value, Refused as NotShown}
+use Rattle.desk.specs.Desk.{shown_value, shown_exact, taken_by, taken_at, evaluated_double, ShownAs, Showing}
+use Rattle.std.specs.Prelude.{Err, Ok}
 
 -- z is the double's own value times 2^s, and w the formula's there
 abbrev pub ExactAt : ℕ → Formula → Float → ℤ → Type 0
@@ -32,15 +27,15 @@ taken_value : (s : ℕ) (f : Formula) (d : Float) → Scale s → Fit s f → ev
 taken_value s f d scale fits = at (taken_of s d) refl
   where
     at : (t : Taken) → taken_of s d ≡ t → evaluation_exact (taken_by s f t) ≡ true → ExactAt s f d (evaluation_word (taken_by s f t))
-    at (Took w mark) q h =
-        let b = both_exact mark (answer_at s f w) h in
-        (w, taken_exact_lem s d w (q ∙ ap (Took w) b.0), rw (marked_word mark (answer_at s f w)) (argument_exact_lem s f w scale fits b.1))
-    at NoWord q h = absurd (false≢true h)
-    at NotFinite q h = absurd (false≢true h)
+    at (Ok a) q h =
+        let w = a.word in
+        let b = both_exact a.exact (answer_at s f w) h in
+        (w, taken_exact_lem s d w (q ∙ ap (took w) b.0), rw (marked_word a.exact (answer_at s f w)) (argument_exact_lem s f w scale fits b.1))
+    at (Err r) q h = absurd (false≢true h)
 
 module _ (s : ℕ) (bytes : List ℕ) (n : ℕ) where
   abbrev f : Formula
-  f = (formula_read s bytes n).formula
+  f = (formula_given (formula_read s bytes n))
 
   pub double_exact : (d : Float) → evaluation_exact (evaluated_double s bytes n d) ≡ true → ExactAt s f d (evaluation_word (evaluated_double s bytes n d))
   double_exact d =
@@ -48,11 +43,11 @@ module _ (s : ℕ) (bytes : List ℕ) (n : ℕ) where
       (λ g. taken_value s f d (given_scale s bytes n g) (given_fits s bytes n g).0)
 
   -- by the double that is given, which is exactly such a word
-  pub door_exact : (d : Float) (y : Shown) → ShownAs s (evaluated_double s bytes n d) y → shown_exact y ≡ true → (w : ℤ) × Exactly s w (shown_value y) × ExactAt s f d w
+  pub door_exact : (d : Float) (y : Showing) → ShownAs s (evaluated_double s bytes n d) y → shown_exact y ≡ true → (w : ℤ) × Exactly s w (shown_value y) × ExactAt s f d w
   door_exact d y p t = at (evaluated_double s bytes n d) y p t (double_exact d)
     where
-      at : (e : Evaluation) (y : Shown) → ShownAs s e y → shown_exact y ≡ true → (evaluation_exact e ≡ true → ExactAt s f d (evaluation_word e)) → (w : ℤ) × Exactly s w (shown_value y) × ExactAt s f d w
-      at (Answered w) (Value x k u) p t own = (w.word, p.0, own (sym p.2 ∙ t))
-      at (Answered w) (NotShown r) p t own = absurd p
-      at (Refused q) (Value x k u) p t own = absurd p
-      at (Refused q) (NotShown r) p t own = absurd (false≢true t)
+      at : (e : Evaluation) (y : Showing) → ShownAs s e y → shown_exact y ≡ true → (evaluation_exact e ≡ true → ExactAt s f d (evaluation_word e)) → (w : ℤ) × Exactly s w (shown_value y) × ExactAt s f d w
+      at (Ok w) (Ok a) p t own = (w.word, p.0, own (sym p.2 ∙ t))
+      at (Ok w) (Err r) p t own = absurd p
+      at (Err q) (Ok a) p t own = absurd p
+      at (Err q) (Err r) p t own = absurd (false≢true t)

@@ -7,14 +7,15 @@ use Rattle.word.specs.Words.{largest}
 use Rattle.word.proofs.RoundedLaws.{rounded_odd}
 use Rattle.word.proofs.ExactLaws.{divides_size}
 use Rattle.word.proofs.SignLaws.{sign_not}
-use Rattle.door.specs.declared.answer.Taken.TheVariants.{Word, NoWord}
-use Rattle.door.specs.Taken.{numerator, argument_of, argument_exact, as_word, taken_of, negated_taken}
+use Rattle.door.specs.Taken.{numerator, argument_of, argument_exact, as_word, taken_of, negated_taken, took}
 use Rattle.door.proofs.TakenLaws.{from_ratio}
+use Rattle.refusal.specs.declared.Fault.TheVariants.{Outside}
+use Rattle.std.specs.Prelude.{Err}
 
 word_negated : (z : ℤ) (exact : Bool) → as_word (neg_ℤ z) exact ≡ negated_taken (as_word z exact)
-word_negated z exact = ap (λ (k : ℕ). cond (leb k largest) (Word (neg_ℤ z) exact) NoWord) (abs_neg z) ∙ by (leb (nat_abs z) largest)
+word_negated z exact = ap (λ (k : ℕ). cond (leb k largest) (took (neg_ℤ z) exact) (Err Outside)) (abs_neg z) ∙ by (leb (nat_abs z) largest)
   where
-    by : (b : Bool) → cond b (Word (neg_ℤ z) exact) NoWord ≡ negated_taken (cond b (Word z exact) NoWord)
+    by : (b : Bool) → cond b (took (neg_ℤ z) exact) (Err Outside) ≡ negated_taken (cond b (took z exact) (Err Outside))
     by true = refl
     by false = refl
 

@@ -9,23 +9,24 @@ use Rattle.word.specs.Rounded.{rounded}
 use Rattle.word.specs.Words.{largest, unit, with_sign}
 use Rattle.word.specs.Exact.{divides}
 use Rattle.word.proofs.SignLaws.{sign_abs, sign_mul}
-use Rattle.door.specs.declared.answer.Taken.TheVariants.{Word, NoWord, NotFinite}
-use Rattle.door.specs.Taken.{as_word, taken_of}
+use Rattle.door.specs.Taken.{as_word, taken_of, took}
 use Rattle.door.proofs.TakenLaws.{from_ratio, taken_nan, taken_inf, ratio_same, taken_value, as_word_no, small, large}
+use Rattle.refusal.specs.declared.Fault.TheVariants.{Outside, NotFinite}
+use Rattle.std.specs.Prelude.{Err}
 
 -- ---- a field of ones: an infinity, or no number
-infinite : (s : ℕ) (t b : Bool) → taken_of s (cond b (inf t) nan) ≡ NotFinite
+infinite : (s : ℕ) (t b : Bool) → taken_of s (cond b (inf t) nan) ≡ (Err NotFinite)
 infinite s t true = taken_inf s t
 infinite s t false = taken_nan s
 
-ones_taken : (f : Format) (s : ℕ) (t : Bool) (F d : ℕ) → F ≡ ones f → 0 < F → taken_of s (of_fields f t F d) ≡ NotFinite
+ones_taken : (f : Format) (s : ℕ) (t : Bool) (F d : ℕ) → F ≡ ones f → 0 < F → taken_of s (of_fields f t F d) ≡ (Err NotFinite)
 unfolding of_fields
 ones_taken f s t zero d h k = absurd (omega arith)
 ones_taken f s t (suc x) d h k =
     ap (λ (b : Bool). taken_of s (cond b (cond (eqb d 0) (inf t) nan) (odd (prec f) t (hid f + d) x (low f)))) (eq-eqb (suc x) (ones f) h)
     ∙ infinite s t (eqb d 0)
 
-pub field_ones : (s : ℕ) (t : Bool) (F d : ℕ) → F ≡ 2047 → taken_of s (of_fields binary64 t F d) ≡ NotFinite
+pub field_ones : (s : ℕ) (t : Bool) (F d : ℕ) → F ≡ 2047 → taken_of s (of_fields binary64 t F d) ≡ (Err NotFinite)
 field_ones s t F d h = ones_taken binary64 s t F d h (omega arith)
 
 -- ---- another field: F - 1 places above the format's smallest value, with a leading digit unless F is 0
@@ -64,7 +65,7 @@ zero_shifted : (q k : ℕ) → eqb (q * 2 ^ k) 0 ≡ eqb q 0
 zero_shifted zero k = ap (λ (z : ℕ). eqb z 0) (zero-mul (2 ^ k))
 zero_shifted (suc q) k = ne_eqb (suc q * 2 ^ k) 0 (λ e. omega (arith, pow_pos k)) ∙ sym (ne_eqb (suc q) 0 (λ e. omega arith))
 
-none_left : (t : Bool) (q p x s l : ℕ) → q < 2 ^ p → suc (p + (x + s)) ≤ l → from_ratio (with_sign t (pos (q * 2 ^ x * 2 ^ s))) (2 ^ l) ≡ Word (pos 0) (eqb q 0)
+none_left : (t : Bool) (q p x s l : ℕ) → q < 2 ^ p → suc (p + (x + s)) ≤ l → from_ratio (with_sign t (pos (q * 2 ^ x * 2 ^ s))) (2 ^ l) ≡ took (pos 0) (eqb q 0)
 none_left t q p x s l h k =
     let z = with_sign t (pos (q * 2 ^ x * 2 ^ s)) in
     let size_is : nat_abs z ≡ q * 2 ^ (x + s) = sign_abs t (pos (q * 2 ^ x * 2 ^ s)) ∙ joined q x s in
@@ -78,18 +79,18 @@ all_left t q x s l h k =
     (omega (arith, sign_abs t (pos (q * 2 ^ x * 2 ^ s)), joined q x s, mul-le-mul h (pow_mono k)))
 
 -- ---- the word, by F + s
-pub field_high : (s : ℕ) (t : Bool) (F d : ℕ) → s ≤ 28 → F < 2047 → 1075 ≤ F + s → taken_of s (of_fields binary64 t F d) ≡ NoWord
+pub field_high : (s : ℕ) (t : Bool) (F d : ℕ) → s ≤ 28 → F < 2047 → 1075 ≤ F + s → taken_of s (of_fields binary64 t F d) ≡ (Err Outside)
 field_high s t zero d S h k = absurd (omega arith)
 field_high s t (suc x) d S h k =
     let z = with_sign t (pos ((hid binary64 + d) * 2 ^ (suc x - 1) * unit s)) in
     finite s t (suc x) d h
     ∙ as_word_no (rounded z (2 ^ low binary64)) (divides (2 ^ low binary64) z) (all_left t (hid binary64 + d) (suc x - 1) s (low binary64) (omega arith) (omega arith))
 
-pub field_low : (s : ℕ) (t : Bool) (F d : ℕ) → s ≤ 28 → d < hid binary64 → F + s < 1022 → taken_of s (of_fields binary64 t F d) ≡ Word (pos 0) (eqb (F + d) 0)
+pub field_low : (s : ℕ) (t : Bool) (F d : ℕ) → s ≤ 28 → d < hid binary64 → F + s < 1022 → taken_of s (of_fields binary64 t F d) ≡ took (pos 0) (eqb (F + d) 0)
 field_low s t F d S D k =
     finite s t F d (omega arith)
     ∙ none_left t (digits binary64 F d) 53 (F - 1) s (low binary64) (few F d D) (omega arith)
-    ∙ ap (Word (pos 0)) (nothing F d)
+    ∙ ap (took (pos 0)) (nothing F d)
   where
     few : (F d : ℕ) → d < hid binary64 → digits binary64 F d < 2 ^ 53
     few zero d h = omega arith

@@ -13,19 +13,19 @@ use Rattle.word.specs.Exact.{divides}
 use Rattle.word.proofs.RoundedLaws.{rounded_near, rounded_same}
 use Rattle.word.proofs.ExactLaws.{divides_same}
 use Rattle.word.proofs.SignLaws.{sign_mul}
-use Rattle.door.specs.declared.answer.Taken.{Taken}
-use Rattle.door.specs.declared.answer.Taken.TheVariants.{Word, NoWord, NotFinite}
-use Rattle.door.specs.Taken.{numerator, as_word, taken_of}
+use Rattle.door.specs.Taken.{numerator, as_word, taken_of, Taken, took}
+use Rattle.refusal.specs.declared.Fault.TheVariants.{Outside, NotFinite}
+use Rattle.std.specs.Prelude.{Err}
 
 -- ---- the definition's three cases; a finite double's is that of a fraction m / d
 abbrev pub from_ratio : ℤ → ℕ → Taken
 from_ratio m d = as_word (rounded m d) (divides d m)
 
-pub taken_nan : (s : ℕ) → taken_of s nan ≡ NotFinite
+pub taken_nan : (s : ℕ) → taken_of s nan ≡ (Err NotFinite)
 unfolding taken_of
 taken_nan s = refl
 
-pub taken_inf : (s : ℕ) (t : Bool) → taken_of s (inf t) ≡ NotFinite
+pub taken_inf : (s : ℕ) (t : Bool) → taken_of s (inf t) ≡ (Err NotFinite)
 unfolding taken_of
 taken_inf s t = refl
 
@@ -50,11 +50,11 @@ taken_value s (fin u m e) t a c C h =
     ∙ sym (sign_mul t (pos (a * unit s)) (down e)))
 
 -- ---- words and other numbers
-pub as_word_yes : (z : ℤ) (exact : Bool) → nat_abs z ≤ largest → as_word z exact ≡ Word z exact
-as_word_yes z exact h = ap (λ b. cond b (Word z exact) NoWord) (le-leb (nat_abs z) largest h)
+pub as_word_yes : (z : ℤ) (exact : Bool) → nat_abs z ≤ largest → as_word z exact ≡ took z exact
+as_word_yes z exact h = ap (λ b. cond b (took z exact) (Err Outside)) (le-leb (nat_abs z) largest h)
 
-pub as_word_no : (z : ℤ) (exact : Bool) → largest < nat_abs z → as_word z exact ≡ NoWord
-as_word_no z exact h = ap (λ b. cond b (Word z exact) NoWord) (lt-leb (nat_abs z) largest h)
+pub as_word_no : (z : ℤ) (exact : Bool) → largest < nat_abs z → as_word z exact ≡ (Err Outside)
+as_word_no z exact h = ap (λ b. cond b (took z exact) (Err Outside)) (lt-leb (nat_abs z) largest h)
 
 -- |m| is at most |rounded m d| · d and half of d more, and the other way round
 apart : (m : ℤ) (d : ℕ) → 0 < d → (2 * (nat_abs (rounded m d) * d) ≤ 2 * nat_abs m + d) × (2 * nat_abs m ≤ 2 * (nat_abs (rounded m d) * d) + d)

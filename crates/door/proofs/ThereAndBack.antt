@@ -4,9 +4,8 @@ use lib.Ieee.{Float, nan, inf, fin, down}
 use lib.Ieee.Exact.{HasValue}
 use Rattle.word.specs.Words.{Word, unit, below_zero, with_sign}
 use Rattle.word.proofs.SignLaws.{sign_mul, sign_back}
-use Rattle.door.specs.declared.answer.Taken.TheVariants as taken
 use Rattle.door.specs.Exact.{Exactly}
-use Rattle.door.specs.Taken.{numerator, taken_of, ValueIs}
+use Rattle.door.specs.Taken.{took, numerator, taken_of, ValueIs}
 use Rattle.door.proofs.ExactArgument.{exact_taken}
 
 own_value : (s : ℕ) (w : ℤ) (x : Float) → HasValue x (below_zero w) (nat_abs w) (unit s) → ValueIs s x w
@@ -18,5 +17,5 @@ own_value s w (fin t m e) h =
     ∙ ap (λ (k : ℕ). with_sign (below_zero w) (pos k)) (sym h.1)
     ∙ ap (λ (b : Bool). numerator s b m e) (sym h.0)
 
-pub there_and_back : (s : ℕ) (w : ℤ) (x : Float) → Word w → Exactly s w x → taken_of s x ≡ taken.Word w true
+pub there_and_back : (s : ℕ) (w : ℤ) (x : Float) → Word w → Exactly s w x → taken_of s x ≡ took w true
 there_and_back s w x small h = exact_taken s x w (own_value s w x h.value) small

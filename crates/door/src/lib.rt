@@ -6,9 +6,11 @@ ghost use Rattle.word.specs.Words.{Scale};
 ghost use Rattle.door.specs.Exact.{Exactly};
 ghost use Rattle.door.specs.Taken.{as_word, taken_of};
 
-pub mod answer; // answer.rt: the enum `Taken` and the struct `Ends`
+pub mod answer; // answer.rt: the struct `Ends`
 
-use answer::{Ends, Taken};
+use answer::Ends;
+use refusal::Fault;
+use word::Argument;
 
 // The largest word and the least.
 const LARGEST: i64 = word::LARGEST as i64;
@@ -16,40 +18,43 @@ const LARGEST: i64 = word::LARGEST as i64;
 const LEAST: i64 = -LARGEST;
 
 // The number z with its mark, if it is a word.
-fn as_word(z: i64, exact: bool) -> Taken
+fn as_word(z: i64, exact: bool) -> Result<Argument, Fault>
     ensures { result ≡ as_word z exact }
 {
     if z < LEAST || LARGEST < z {
-        Taken::NoWord
-    } else {
-        Taken::Word(z as i32, exact)
+        return Err(Fault::Outside);
     }
+    let word = z as i32;
+    Ok(Argument { word, exact })
 }
 
 // A double's value times 2^s, rounded to a word, and whether nothing was rounded; or why there is no word.
 // A double with the exponent field f has 53 digits, counted in units of 2^(f - 1075); that is 2^(e - 1075) steps, with e = f + s.
 // From e = 1075 on it is 2^52 steps or more. Below e = 1022 it is less than half a step: zeros and subnormal doubles,
 // which have no leading digit, are among these. Of them a zero alone, all of whose bits but the sign are 0, is a whole number of steps.
-pub fn taken(x: f64, s: u32) -> Taken
+pub fn taken(x: f64, s: u32) -> Result<Argument, Fault>
     requires { Scale s }
     ensures { result ≡ taken_of s x }
 {
     if x != x {
-        return Taken::NotFinite;
+        return Err(Fault::NotFinite);
     }
     let b = f64::to_bits(x);
     let sign = b >> 63 == 1;
     let exponent = ((b >> 52) & 0x7ff) as u32;
     let fraction = b & 0xf_ffff_ffff_ffff;
     if exponent == 0x7ff {
-        return Taken::NotFinite;
+        return Err(Fault::NotFinite);
     }
     let e = exponent + s;
     if 1075 <= e {
-        return Taken::NoWord;
+        return Err(Fault::Outside);
     }
     if e < 1022 {
-        return Taken::Word(0, b << 1 == 0);
+        return Ok(Argument {
+            word: 0,
+            exact: b << 1 == 0,
+        });
     }
     let n = word::with_sign(sign, (fraction | 0x10_0000_0000_0000) as i64);
     let cut = 1075 - e;

@@ -1,6 +1,8 @@
 -- A chain of faults, a link at a time.
-use Rattle.whole.proofs.Basics.{◌≡◌, refl, sym, Bool, true, false, cond, ℕ, eqb, eqb-true, eqb-false, eq-eqb, ne_eqb}
-use Rattle.faults.specs.Guard.{guard, or_else}
+use Rattle.whole.proofs.Basics.{◌≡◌, refl, sym, Bool, true, false, cond, ℕ, arith, eqb, eqb-true, eqb-false, eq-eqb, ne_eqb}
+use Rattle.refusal.specs.Guard.{number_of, guard, or_else}
+use Rattle.refusal.specs.declared.Fault.{Fault}
+use Rattle.refusal.specs.declared.Fault.TheVariants.{BrokenOff, Length, Kind, Count, Order, Value, RangeLeft, DivisorZero, Surplus, Outside, Absent, NoRoom, NotFinite, Blank, NoSine}
 
 -- code that stops at a fault, and code that goes past none
 pub halts : {A : Type 0} {r a : ℕ} {x : A} (bad : ℕ → A) (ok : A) → r ≡ a → (r ≡ 0 → ⊥) → x ≡ bad r → x ≡ guard a bad ok
@@ -14,6 +16,30 @@ stop b e h = halts (λ (n : ℕ). n) b e h refl
 
 pub pass : {r a s b : ℕ} → r ≡ a → r ≡ 0 → s ≡ b → s ≡ or_else a b
 pass e z f = goes (λ (n : ℕ). n) e z f
+
+-- the same of what a check answers: it stops at a fault, which is never 0, and goes past none
+pub fault_some : (f : Fault) → number_of f ≡ 0 → ⊥
+fault_some BrokenOff e = absurd (omega arith)
+fault_some Length e = absurd (omega arith)
+fault_some Kind e = absurd (omega arith)
+fault_some Count e = absurd (omega arith)
+fault_some Order e = absurd (omega arith)
+fault_some Value e = absurd (omega arith)
+fault_some RangeLeft e = absurd (omega arith)
+fault_some DivisorZero e = absurd (omega arith)
+fault_some Surplus e = absurd (omega arith)
+fault_some Outside e = absurd (omega arith)
+fault_some Absent e = absurd (omega arith)
+fault_some NoRoom e = absurd (omega arith)
+fault_some NotFinite e = absurd (omega arith)
+fault_some Blank e = absurd (omega arith)
+fault_some NoSine e = absurd (omega arith)
+
+pub err_stops : (f : Fault) {a : ℕ} (b : ℕ) → number_of f ≡ a → number_of f ≡ or_else a b
+err_stops f b e = stop b e (fault_some f)
+
+pub ok_passes : {a n b : ℕ} → 0 ≡ a → n ≡ b → n ≡ or_else a b
+ok_passes e f = pass e refl f
 
 -- a chain may be cut anywhere
 pub or_assoc : (a b c : ℕ) → or_else (or_else a b) c ≡ or_else a (or_else b c)

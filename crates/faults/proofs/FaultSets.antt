@@ -11,7 +11,7 @@ use Rattle.table.specs.declared.Field.{Field}
 use Rattle.table.specs.declared.Row.{Row}
 use Rattle.table.specs.Table.{length_by}
 use Rattle.layout.specs.Fields.{shape_of}
-use Rattle.faults.specs.Guard.{or_else}
+use Rattle.refusal.specs.Guard.{or_else}
 use Rattle.faults.specs.Faults.{frame_fault, outside, count_fault, size_fault, length_fault, start_fault, scale_fault, order_fault, end_fault, word_fault, words_fault, interval_fault, kind_fault, own_fault, blank_fault}
 use Rattle.faults.specs.Refusals.{OneOf}
 

@@ -1,12 +1,12 @@
 -- A record without a fault in counts and length, and a row without counts, whose records have one length: the tests taken one by one.
-use Rattle.whole.proofs.Basics.{◌≡◌, refl, sym, ap, Bool, true, false, cond, List, ℕ, suc, zero, ◌+◌, ◌-◌, ◌*◌, ◌/◌, arith, eqb, ltb, length, eqb-true, eqb-false, ltb-true, ltb-false, eq-eqb, ne_eqb, lt-ltb, le-ltb}
+use Rattle.whole.proofs.Basics.{◌≡◌, refl, sym, ap, Bool, true, false, cond, List, ℕ, suc, zero, ◌+◌, ◌-◌, ◌*◌, ◌/◌, ◌≤◌, arith, eqb, ltb, length, eqb-true, eqb-false, ltb-true, ltb-false, eq-eqb, ne_eqb, lt-ltb, le-ltb}
 use native.Mathlib.Nat.{mul-zero}
 use Rattle.table.specs.declared.Field.{Field}
 use Rattle.table.specs.declared.Row.{Row}
 use Rattle.table.specs.Table.{pieces_by, length_by, Within}
 use Rattle.table.specs.Rule.{Bare}
 use Rattle.layout.specs.Fields.{first_count, field_of, shape_of, Laid}
-use Rattle.faults.specs.Guard.{or_else}
+use Rattle.refusal.specs.Guard.{or_else}
 use Rattle.faults.specs.Faults.{outside, count_fault, size_fault, length_fault}
 use Rattle.faults.proofs.Chain.{passed, met, neither}
 
@@ -54,3 +54,10 @@ laid r b e =
     let g = neither (count_fault r h.p h.q) _ f.1 in
     let c = counted r h.p h.q g.0 in
     record { p = c.0; q = c.1; exact = eqb-true _ _ (met (eqb (length_by r h.p h.q) (length b)) 0 2 (λ z. omega arith) g.1).0 }
+
+-- where a count is without fault it is in its range
+pub first_in : (r : Row) (p q : ℕ) → 0 ≡ count_fault r p q → p ≤ r.p.most
+first_in r p q e = (counted r p q (sym e)).0.1
+
+pub second_in : (r : Row) (p q : ℕ) → 0 ≡ count_fault r p q → q ≤ r.q.most
+second_in r p q e = (counted r p q (sym e)).1.1

@@ -1,10 +1,12 @@
 -- The stored values of a formula: tests of words, one by one, and what they say of a whole list.
-use Rattle.whole.proofs.Basics.{◌≡◌, refl, sym, ap, subst, Bool, true, false, cond, List, [], ◌∷◌, ℕ, suc, zero, ◌+◌, ◌-◌, ◌*◌, ◌≤◌, ◌<◌, arith, T, ltb, ℤ, pos, negsuc, nat_abs, lt_z, w32, SFits, ltb-true, ltb-false, lt-ltb, le-ltb}
+use Rattle.whole.proofs.Basics.{eqb, ◌∙◌, drop, get_or, length, ◌≡◌, refl, sym, ap, subst, Bool, true, false, cond, List, [], ◌∷◌, ℕ, suc, zero, ◌+◌, ◌-◌, ◌*◌, ◌≤◌, ◌<◌, arith, T, ltb, ℤ, pos, negsuc, nat_abs, lt_z, w32, SFits, ltb-true, ltb-false, lt-ltb, le-ltb}
+use Rattle.std.proofs.Common.{drop-cons}
 use Rattle.word.specs.Words.{Word}
 use Rattle.word.specs.Lists.{Words}
 use Rattle.stored.specs.Numbers.{word4}
-use Rattle.stored.specs.Words.{words}
-use Rattle.faults.specs.Guard.{or_else}
+use Rattle.stored.specs.Words.{words, value, values}
+use Rattle.formula.specs.Blank.{all_zero}
+use Rattle.refusal.specs.Guard.{or_else}
 use Rattle.faults.specs.Faults.{word_fault, words_fault, interval_fault}
 use Rattle.faults.proofs.Chain.{pass, passed, neither}
 
@@ -63,3 +65,18 @@ pub all_words : (l : List ℤ) → Words l → words_fault l ≡ 0
 unfolding words_fault
 all_words [] h = refl
 all_words (z ∷ l) h = rw (le-ltb 2147483647 (nat_abs z) (h 0)) (all_words l (λ i. h (suc i)))
+
+-- ---- of words by their own bytes: those still to come are the next, and those behind it
+pub next_fault : (ws : List (List ℕ)) (i : ℕ) → i < length ws → words_fault (values (drop i ws)) ≡ or_else (word_fault (value (get_or ws i []))) (words_fault (values (drop (i + 1) ws)))
+unfolding words_fault
+next_fault ws i h =
+    let e : suc i ≡ i + 1 = omega arith in
+    ap (λ (l : List (List ℕ)). words_fault (values l)) (drop-cons ws i [] h)
+    ∙ ap (λ (k : ℕ). or_else (word_fault (value (get_or ws i []))) (words_fault (values (drop k ws)))) e
+
+pub next_zero : (ws : List (List ℕ)) (i : ℕ) → i < length ws → all_zero (values (drop i ws)) ≡ cond (eqb (nat_abs (value (get_or ws i []))) 0) (all_zero (values (drop (i + 1) ws))) false
+unfolding all_zero
+next_zero ws i h =
+    let e : suc i ≡ i + 1 = omega arith in
+    ap (λ (l : List (List ℕ)). all_zero (values l)) (drop-cons ws i [] h)
+    ∙ ap (λ (k : ℕ). cond (eqb (nat_abs (value (get_or ws i []))) 0) (all_zero (values (drop k ws))) false) e

@@ -11,7 +11,7 @@ use Rattle.table.specs.declared.Field.{Field}
 use Rattle.table.specs.declared.Row.{Row}
 use Rattle.table.specs.Table.{rows, first_row, row_of, pieces_by, length_by}
 use Rattle.layout.specs.Fields.{first_count, field_of, shape_of, shape}
-use Rattle.faults.specs.Guard.{or_else}
+use Rattle.refusal.specs.Guard.{or_else}
 
 -- ---- the frame: fewer than 4 bytes left (1); length outside 8..120 (2); fewer bytes than the length (1)
 unfoldable pub frame_fault : List ℕ → ℕ → ℕ

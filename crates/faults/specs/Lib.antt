@@ -1,4 +1,3 @@
 -- Refusal numbers and their order, and the faults of a record's parts.
-pub mod Guard
 pub mod Faults
 pub mod Refusals

@@ -3,58 +3,51 @@ ghost use Rattle.std.specs.Prelude.{◌≡◌, ◌≤◌, length};
 ghost use Rattle.table.specs.Codes.{start_row, end_row};
 ghost use Rattle.table.specs.Rule.{Bare};
 ghost use Rattle.layout.specs.Fields.{count_of};
-ghost use Rattle.faults.specs.Guard.{or_else};
+ghost use Rattle.refusal.specs.Guard.{numbered, or_else};
 ghost use Rattle.faults.specs.Faults.{length_fault, start_fault, end_fault};
 
 use crate::parts;
+use refusal::Fault;
 use table::Row;
 
-fn bare_fault(b: &[u8], row: Row) -> u8
+#[tactic(auto, using(crate::proofs::Lengths::bare_length))]
+fn bare_fault(b: &[u8], row: Row) -> Result<(), Fault>
     requires { Bare row }
-    ensures { result ≡ length_fault row b.now }
+    ensures { numbered result ≡ length_fault row b.now }
 {
     if b.len() != row.head {
-        return 2;
+        return Err(Fault::Length);
     }
-    0
+    Ok(())
 }
 
 // 2; then 4 for a count out of range.
-pub fn start_fault(b: &[u8]) -> u8
+pub fn start_fault(b: &[u8]) -> Result<(), Fault>
     requires { 8 ≤ length b.now }
-    ensures { result ≡ or_else (length_fault start_row b.now) (start_fault start_row (count_of b.now)) }
+    ensures { numbered result ≡ or_else (length_fault start_row b.now) (start_fault start_row (count_of b.now)) }
 {
     let row = table::row_of(table::START);
-    let f = bare_fault(b, row);
-    if f != 0 {
-        return f;
-    }
+    bare_fault(b, row)?;
     let count = row.count;
-    parts::outside(count, layout::count(b), 4)
+    parts::outside(count, layout::count(b), Fault::Count)
 }
 
 // The same count as the start's, and as many formulas (4).
 #[tactic(auto, unfolding(crate::specs::Faults::end_fault))]
-fn count_fault(seen: u16, count: u16, c: u16) -> u8
-    ensures { result ≡ end_fault seen count c }
+fn count_fault(seen: u16, count: u16, c: u16) -> Result<(), Fault>
+    ensures { numbered result ≡ end_fault seen count c }
 {
-    if seen != count {
-        return 4;
+    if seen != count || c != count {
+        return Err(Fault::Count);
     }
-    if c != count {
-        return 4;
-    }
-    0
+    Ok(())
 }
 
 // 2; then 4.
-pub fn end_fault(b: &[u8], seen: u16, count: u16) -> u8
+pub fn end_fault(b: &[u8], seen: u16, count: u16) -> Result<(), Fault>
     requires { 8 ≤ length b.now }
-    ensures { result ≡ or_else (length_fault end_row b.now) (end_fault seen count (count_of b.now)) }
+    ensures { numbered result ≡ or_else (length_fault end_row b.now) (end_fault seen count (count_of b.now)) }
 {
-    let f = bare_fault(b, table::row_of(table::END));
-    if f != 0 {
-        return f;
-    }
+    bare_fault(b, table::row_of(table::END))?;
     count_fault(seen, count, layout::count(b))
 }

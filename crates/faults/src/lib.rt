@@ -1,51 +1,43 @@
-// A refusal, and the checks of a record's parts: here its frame and the binary places, in `framing` a start and an end, in `parts`
-// what a formula record is made of. Each function gives the paper's number, or 0 for none.
+// The checks of a record's parts: here its frame and the binary places, in `framing` a start and an end, in `parts` what a formula
+// record is made of. specs/Faults.antt says them by the paper's numbers, 0 for none.
 #![tactic(auto)]
 
 ghost use Rattle.std.specs.Prelude.{◌≡◌, ◌≤◌, length};
+ghost use Rattle.refusal.specs.Guard.{numbered};
 ghost use Rattle.faults.specs.Faults.{frame_fault, scale_fault};
 
 pub mod framing;
 pub mod parts;
 
-// The paper's number of a refusal, and the place of the byte that it names.
-#[derive(Drop)]
-pub struct Refusal {
-    pub number: u8,
-    pub place: usize,
-}
+use refusal::Fault;
 
 // Whether a record stands at a place: 1 or 2.
-pub fn frame_fault(s: &[u8], at: usize) -> u8
+#[tactic(auto, unfolding(crate::specs::Faults::frame_fault))]
+pub fn frame_fault(s: &[u8], at: usize) -> Result<(), Fault>
     requires { at ≤ length s.now }
-    ensures { result ≡ frame_fault s.now at }
+    ensures { numbered result ≡ frame_fault s.now at }
 {
     let left = s.len() - at;
     if left < 4 {
-        return 1;
+        return Err(Fault::BrokenOff);
     }
     let n = stored::get4(s, at) as usize;
-    if n < 8 {
-        return 2;
-    }
-    if 120 < n {
-        return 2;
+    if n < 8 || 120 < n {
+        return Err(Fault::Length);
     }
     if left < n {
-        return 1;
+        return Err(Fault::BrokenOff);
     }
-    0
+    Ok(())
 }
 
 // 6 for binary places that no board has.
-pub fn scale_fault(s: u32) -> u8
-    ensures { result ≡ scale_fault s }
+#[tactic(auto, unfolding(crate::specs::Faults::scale_fault))]
+pub fn scale_fault(s: u32) -> Result<(), Fault>
+    ensures { numbered result ≡ scale_fault s }
 {
-    if s < 16 {
-        return 6;
+    if s < 16 || 28 < s {
+        return Err(Fault::Value);
     }
-    if 28 < s {
-        return 6;
-    }
-    0
+    Ok(())
 }

@@ -1,156 +1,125 @@
 // The checks of a formula record's parts: its counts and length, its place among the others, its words and whether
 // they are all zero, its interval and mode.
 ghost use Rattle.std.specs.Prelude.{◌≡◌};
-ghost use Rattle.stored.specs.Words.{words, Stretch};
+ghost use Rattle.stored.specs.Words.{values};
 ghost use Rattle.formula.specs.Blank.{all_zero};
 ghost use Rattle.table.specs.Rule.{Ruled};
+ghost use Rattle.refusal.specs.Guard.{number_of, numbered};
 ghost use Rattle.faults.specs.Faults.{outside, count_fault, size_fault, order_fault, word_fault, words_fault, interval_fault, kind_fault, own_fault};
 
 use formula::{Kind, Shape};
+use refusal::Fault;
 use table::{Field, Row};
 
-pub fn outside(field: Field, n: u16, number: u8) -> u8
-    ensures { result ≡ outside field n number }
+#[tactic(auto, unfolding(crate::specs::Faults::outside))]
+pub fn outside(field: Field, n: u16, fault: Fault) -> Result<(), Fault>
+    ensures { numbered result ≡ outside field n (number_of fault) }
 {
-    if n < field.least {
-        return number;
+    if n < field.least || field.most < n {
+        return Err(fault);
     }
-    if field.most < n {
-        return number;
-    }
-    0
+    Ok(())
 }
 
 // A count of coefficients or depth outside its range (2).
-pub fn count_fault(row: Row, p: u16, q: u16) -> u8
-    ensures { result ≡ count_fault row p q }
+#[tactic(auto, unfolding(crate::specs::Faults::count_fault))]
+pub fn count_fault(row: Row, p: u16, q: u16) -> Result<(), Fault>
+    ensures { numbered result ≡ count_fault row p q }
 {
     let first = row.p;
-    let f = outside(first, p, 2);
-    if f != 0 {
-        return f;
-    }
+    outside(first, p, Fault::Length)?;
     let second = row.q;
-    outside(second, q, 2)
+    outside(second, q, Fault::Length)
 }
 
-pub fn size_fault(row: Row, shape: Shape, n: usize) -> u8
+#[tactic(auto, using(crate::proofs::Lengths::first_in, crate::proofs::Lengths::second_in), unfolding(crate::specs::Faults::size_fault))]
+pub fn size_fault(row: Row, shape: Shape, n: usize) -> Result<(), Fault>
     requires { Ruled row }
-    ensures { result ≡ size_fault row shape n }
+    ensures { numbered result ≡ size_fault row shape n }
 {
-    let f = count_fault(row, shape.p, shape.q);
-    if f != 0 {
-        return f;
-    }
+    count_fault(row, shape.p, shape.q)?;
     if table::length_by(row, shape.p, shape.q) != n {
-        return 2;
+        return Err(Fault::Length);
     }
-    0
+    Ok(())
 }
 
 // A formula too many (4), or a number not above the one before (5).
 #[tactic(auto, unfolding(crate::specs::Faults::order_fault))]
-pub fn order_fault(seen: u16, count: u16, next: u32, number: u16) -> u8
-    ensures { result ≡ order_fault seen count next number }
+pub fn order_fault(seen: u16, count: u16, next: u32, number: u16) -> Result<(), Fault>
+    ensures { numbered result ≡ order_fault seen count next number }
 {
     if seen == count {
-        return 4;
+        return Err(Fault::Count);
     }
     if (number as u32) < next {
-        return 5;
+        return Err(Fault::Order);
     }
-    0
+    Ok(())
 }
 
 // The least word. Below it stands the one pattern that is no word.
 const LEAST: i32 = -(word::LARGEST as i32);
 
-fn word_fault(x: i32) -> u8
-    ensures { result ≡ word_fault x }
+fn word_fault(x: i32) -> Result<(), Fault>
+    ensures { numbered result ≡ word_fault x }
 {
     if x < LEAST {
-        return 6;
+        return Err(Fault::Value);
     }
-    0
+    Ok(())
 }
 
-// 6 at the first of the m words from a place on that is none.
-pub fn words_fault(b: &[u8], at: usize, m: usize) -> u8
-    requires { Stretch b.now at m }
-    ensures { result ≡ words_fault (words b.now at m) }
+// 6 where one of the words is none.
+pub fn words_fault(words: &[[u8; 4]]) -> Result<(), Fault>
+    ensures { numbered result ≡ words_fault (values words.now) }
 {
-    let mut i: usize = 0;
-    while i < m {
-        let f = word_fault(stored::get_word(b, at + 4 * i));
-        if f != 0 {
-            return f;
-        }
-        i += 1;
+    for word in words {
+        word_fault(stored::value(word))?;
     }
-    0
+    Ok(())
 }
 
-// Whether each of the m words from a place on is zero.
-pub fn all_zero(b: &[u8], at: usize, m: usize) -> bool
-    requires { Stretch b.now at m }
-    ensures { result ≡ all_zero (words b.now at m) }
+// Whether each of the words is zero.
+pub fn all_zero(words: &[[u8; 4]]) -> bool
+    ensures { result ≡ all_zero (values words.now) }
 {
-    let mut i: usize = 0;
-    while i < m {
-        if stored::get_word(b, at + 4 * i) != 0 {
+    for word in words {
+        if stored::value(word) != 0 {
             return false;
         }
-        i += 1;
     }
     true
 }
 
 // That hi is a word follows: it is not below lo.
-fn interval_fault(lo: i32, hi: i32) -> u8
-    ensures { result ≡ interval_fault lo hi }
+fn interval_fault(lo: i32, hi: i32) -> Result<(), Fault>
+    ensures { numbered result ≡ interval_fault lo hi }
 {
-    let f = word_fault(lo);
-    if f != 0 {
-        return f;
-    }
+    word_fault(lo)?;
     if hi < lo {
-        return 6;
+        return Err(Fault::Value);
     }
-    0
+    Ok(())
 }
 
-fn kind_fault(kind: Kind, lo: i32) -> u8
-    ensures { result ≡ kind_fault kind lo }
+fn kind_fault(kind: Kind, lo: i32) -> Result<(), Fault>
+    ensures { numbered result ≡ kind_fault kind lo }
 {
     match kind {
-        Kind::Polynomial => 0,
-        Kind::Rational => 0,
-        Kind::Fraction => 0,
-        Kind::Root => {
-            if lo < 0 {
-                return 6;
-            }
-            0
-        }
-        Kind::Odd => 0,
-        Kind::Even => 0,
-        Kind::NoFormula => 0,
+        Kind::Root if lo < 0 => Err(Fault::Value),
+        _ => Ok(()),
     }
 }
 
 // 6 of all but the words: the interval, the mode, the kind's own.
-pub fn own_fault(row: Row, shape: Shape, lo: i32, hi: i32) -> u8
-    ensures { result ≡ own_fault row shape lo hi }
+#[tactic(auto, unfolding(crate::specs::Faults::own_fault))]
+pub fn own_fault(row: Row, shape: Shape, lo: i32, hi: i32) -> Result<(), Fault>
+    ensures { numbered result ≡ own_fault row shape lo hi }
 {
-    let f = interval_fault(lo, hi);
-    if f != 0 {
-        return f;
-    }
+    interval_fault(lo, hi)?;
     let mode = row.mode;
-    let g = outside(mode, shape.mode, 6);
-    if g != 0 {
-        return g;
-    }
+    outside(mode, shape.mode, Fault::Value)?;
     let kind = row.kind;
     kind_fault(kind, lo)
 }

@@ -3,7 +3,6 @@ use Rattle.whole.proofs.Basics.{◌≡◌, refl, subst, List, ℕ, ◌≤◌, �
 use lib.Seq.{length-take-le}
 use Rattle.whole.proofs.Order.{≤ℤ_trans}
 use Rattle.root.specs.Root.{Rootable}
-use Rattle.admission.specs.declared.Admission.TheVariants.{Admitted}
 use Rattle.polynomial.specs.Polynomial.{PolynomialReady}
 use Rattle.polynomial.proofs.WalkLaws.{in_range_less}
 use Rattle.polynomial.proofs.StaysInRange.{polynomial_in_range}
@@ -17,10 +16,11 @@ use Rattle.formula.specs.declared.Kind.TheVariants.{Polynomial, Rational, Fracti
 use Rattle.formula.specs.declared.Shape.{Shape}
 use Rattle.formula.proofs.SoundLaws.{counts_at, room_at, length_second}
 use Rattle.formula.proofs.StaysInRange.{x_most, x_word}
+use Rattle.admission.specs.Admission.{granted}
 
 module _ (s : ℕ) (h : Shape) (ws : List ℤ) (x : ℤ) (a : Answerable s h ws x) where
-  admitted_at : (k : Kind) → h.kind ≡ k → admission_by k s (most_of a.lo a.hi) h.p h.q h.mode ws ≡ Admitted
-  admitted_at k e = subst (λ (j : Kind). admission_by j s (most_of a.lo a.hi) h.p h.q h.mode ws ≡ Admitted) e a.admitted
+  admitted_at : (k : Kind) → h.kind ≡ k → admission_by k s (most_of a.lo a.hi) h.p h.q h.mode ws ≡ granted
+  admitted_at k e = subst (λ (j : Kind). admission_by j s (most_of a.lo a.hi) h.p h.q h.mode ws ≡ granted) e a.admitted
 
   -- a kind whose words are one list has one or more
   some : (k : Kind) → word_count k h.p h.q ≡ h.p → 1 ≤ h.p → h.kind ≡ k → 0 < length (take h.p ws)

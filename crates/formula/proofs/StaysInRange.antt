@@ -4,7 +4,6 @@ use Rattle.whole.proofs.Order.{≤ℤ_trans}
 use Rattle.word.specs.Words.{Word, NotZero, Scale}
 use Rattle.root.proofs.RootLaws.{root_word_lem}
 use Rattle.word.specs.Lists.{All}
-use Rattle.admission.specs.declared.Admission.TheVariants.{Admitted}
 use Rattle.polynomial.proofs.StaysInRange.{polynomial_stays}
 use Rattle.odd_even.proofs.StaysInRange.{even_stays, odd_stays}
 use Rattle.rational.proofs.StaysInRange.{rational_stays}
@@ -15,6 +14,7 @@ use Rattle.formula.specs.declared.Kind.TheVariants.{Polynomial, Rational, Fracti
 use Rattle.formula.specs.declared.Shape.{Shape}
 use Rattle.formula.proofs.SoundLaws.{length_second}
 use Rattle.formula.proofs.IntervalLaws.{most_bounds, most_word}
+use Rattle.admission.specs.Admission.{granted}
 
 -- ---- what an answerable argument is
 module _ (s : ℕ) (h : Shape) (ws : List ℤ) (x : ℤ) (a : Answerable s h ws x) where
@@ -25,7 +25,7 @@ module _ (s : ℕ) (h : Shape) (ws : List ℤ) (x : ℤ) (a : Answerable s h ws 
   x_word = omega (arith, x_most, most_word a.lo a.hi a.sound.low a.sound.high)
 
 -- ---- by the kind
-stays_by : (k : Kind) (s A p q mode : ℕ) (ws : List ℤ) (lo x : ℤ) → Scale s → Word x → nat_abs x ≤ A → lo ≤ℤ x → Counted k p q mode → word_count k p q ≤ length ws → RootInterval k lo → admission_by k s A p q mode ws ≡ Admitted → All Word (numbers_by k s p q mode ws x) × All NotZero (divisors_by k s p q mode ws x)
+stays_by : (k : Kind) (s A p q mode : ℕ) (ws : List ℤ) (lo x : ℤ) → Scale s → Word x → nat_abs x ≤ A → lo ≤ℤ x → Counted k p q mode → word_count k p q ≤ length ws → RootInterval k lo → admission_by k s A p q mode ws ≡ granted → All Word (numbers_by k s p q mode ws x) × All NotZero (divisors_by k s p q mode ws x)
 stays_by Polynomial s A p q mode ws lo x c w h l counts room rooted e = (polynomial_stays s A (take p ws) x h e, tt)
 stays_by Rational s A p q mode ws lo x c w h l counts room rooted e =
     let r = rational_stays s A (take p ws) (take q (drop p ws)) x (omega (arith, length_second p q ws room, counts)) h e in

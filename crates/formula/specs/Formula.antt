@@ -7,8 +7,6 @@ use Rattle.root.specs.Root.{root_in, root_word}
 use Rattle.root.specs.Heron.{digits_in, heron_from, rooted_by}
 use Rattle.word.specs.Lists.{Words}
 use Rattle.stored.specs.Words.{words, Stretch}
-use Rattle.admission.specs.declared.Admission.{Admission}
-use Rattle.admission.specs.declared.Admission.TheVariants.{Admitted, RangeLeft}
 use Rattle.polynomial.specs.Polynomial.{horner, polynomial_numbers, bound_of, polynomial_admission}
 use Rattle.polynomial.specs.Exact.{polynomial_exact}
 use Rattle.odd_even.specs.OddEven.{even_of, odd_of, even_numbers, odd_numbers, even_admission, odd_admission}
@@ -20,6 +18,7 @@ use Rattle.formula.specs.declared.Kind.{Kind}
 use Rattle.formula.specs.declared.Kind.TheVariants.{Polynomial, Rational, Fraction, Root, Odd, Even, NoFormula}
 use Rattle.formula.specs.declared.Shape.{Shape}
 use Rattle.formula.specs.declared.Worked.{Worked}
+use Rattle.admission.specs.Admission.{Admission, granted, range_left}
 
 -- ---- the answer at x, by the kind. A root is the number that Heron's rule ends with: `heron_is` of the crate `root`
 abbrev pub answer_by : Kind → ℕ → ℕ → ℕ → ℕ → List ℤ → ℤ → ℤ
@@ -86,10 +85,10 @@ abbrev pub admission_by : Kind → ℕ → ℕ → ℕ → ℕ → ℕ → List 
 admission_by Polynomial s A p q mode ws = polynomial_admission s A (take p ws)
 admission_by Rational s A p q mode ws = rational_admission s A (take p ws) (take q (drop p ws))
 admission_by Fraction s A p q mode ws = fraction_admission s A mode ws p
-admission_by Root s A p q mode ws = Admitted
+admission_by Root s A p q mode ws = granted
 admission_by Odd s A p q mode ws = odd_admission s A (take p ws)
 admission_by Even s A p q mode ws = even_admission s A (take p ws)
-admission_by NoFormula s A p q mode ws = RangeLeft
+admission_by NoFormula s A p q mode ws = range_left
 
 abbrev pub admission_of : ℕ → Shape → ℤ → ℤ → List ℤ → Admission
 admission_of s h lo hi ws = admission_by h.kind s (most_of lo hi) h.p h.q h.mode ws
@@ -146,7 +145,7 @@ pub record Answerable (s : ℕ) (h : Shape) (ws : List ℤ) (x : ℤ) : Type 0 w
   pub lo : ℤ
   pub hi : ℤ
   pub sound : Sound h lo hi ws
-  pub admitted : admission_of s h lo hi ws ≡ Admitted
+  pub admitted : admission_of s h lo hi ws ≡ granted
   pub above : lo ≤ℤ x
   pub below : x ≤ℤ hi
 
@@ -214,8 +213,8 @@ odd_and_even :
     × (answer_by Even 24 2 0 0 bend (pos 8388608) ≡ pos 14680064)
     × (numbers_by Odd 24 2 0 0 bend (pos 8388608) ≡ pos 7340032 ∷ pos 4194304 ∷ negsuc 2097151 ∷ pos 14680064 ∷ pos 0 ∷ negsuc 8388607 ∷ [])
     × (numbers_by Even 24 2 0 0 bend (pos 8388608) ≡ pos 4194304 ∷ negsuc 2097151 ∷ pos 14680064 ∷ pos 0 ∷ negsuc 8388607 ∷ [])
-    × (admission_by Odd 24 33554432 1 0 0 (pos 1073741824 ∷ []) ≡ RangeLeft)
-    × (admission_by Even 24 33554432 1 0 0 (pos 1073741824 ∷ []) ≡ Admitted)
+    × (admission_by Odd 24 33554432 1 0 0 (pos 1073741824 ∷ []) ≡ range_left)
+    × (admission_by Even 24 33554432 1 0 0 (pos 1073741824 ∷ []) ≡ granted)
 unfolding horner polynomial_numbers bound_of rounded rounded_up
 odd_and_even = (refl, refl, refl, refl, refl, refl)
 

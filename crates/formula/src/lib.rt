@@ -1,11 +1,12 @@
 // A formula of any kind: its shape, and what it answers over the words that stand in bytes.
 #![tactic(auto)]
 
-ghost use Rattle.std.specs.Prelude.{◌≡◌, ◌<◌};
+ghost use Rattle.std.specs.Prelude.{◌≡◌, ◌<◌, length};
 ghost use Rattle.word.specs.Exact.{whole_at};
 ghost use Rattle.root.specs.Root.{Rootable, root_word, exact_root};
 ghost use Rattle.root.specs.Heron.{rooted_by};
-ghost use Rattle.formula.specs.Formula.{most_of, worked, worked_of, stored_words, Stored, Answerable};
+ghost use Rattle.stored.specs.Words.{values};
+ghost use Rattle.formula.specs.Formula.{most_of, worked, worked_of, word_count, Answerable};
 
 use word::Marked;
 
@@ -83,20 +84,21 @@ fn root_with_steps(x: i32, s: u32) -> Worked
     }
 }
 
-// The answer at x of the formula whose words stand from `at` on.
-pub fn answer(b: &[u8], at: usize, shape: Shape, x: i32, s: u32) -> Worked
-    requires { Stored shape b.now at × Answerable s shape (stored_words shape b.now at) x }
-    ensures { result ≡ worked_of s shape (stored_words shape b.now at) x }
+// The answer at x of the formula of these words.
+pub fn answer(words: &[[u8; 4]], shape: Shape, x: i32, s: u32) -> Worked
+    requires { (length words.now ≡ word_count shape.kind shape.p shape.q) × Answerable s shape (values words.now) x }
+    ensures { result ≡ worked_of s shape (values words.now) x }
 {
-    let kind = shape.kind;
-    let p = shape.p as usize;
-    match kind {
-        Kind::Polynomial => without_steps(polynomial::answer(b, at, p, x, s), s),
-        Kind::Rational => without_steps(rational::answer(b, at, p, shape.q as usize, x, s), s),
-        Kind::Fraction => without_steps(fraction::answer(b, at, p, shape.mode as u32, x, s), s),
+    match shape.kind {
+        Kind::Polynomial => without_steps(polynomial::answer(words, x, s), s),
+        Kind::Rational => {
+            let p = shape.p as usize;
+            without_steps(rational::answer(&words[..p], &words[p..], x, s), s)
+        }
+        Kind::Fraction => without_steps(fraction::answer(words, shape.mode as u32, x, s), s),
         Kind::Root => root_with_steps(x, s),
-        Kind::Odd => without_steps(odd_even::odd(b, at, p, x, s), s),
-        Kind::Even => without_steps(odd_even::even(b, at, p, x, s), s),
+        Kind::Odd => without_steps(odd_even::odd(words, x, s), s),
+        Kind::Even => without_steps(odd_even::even(words, x, s), s),
         Kind::NoFormula => without_steps(Marked { word: 0, loose: 0 }, s),
     }
 }

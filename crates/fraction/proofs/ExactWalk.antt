@@ -1,6 +1,6 @@
 -- The mark as the code meets it: `before` marks what came before a step, the square before the first one. A mark joined to those before it may as well
 -- be joined to those after it, so that the code's order gives the definition's.
-use Rattle.whole.proofs.Basics.{◌≡◌, refl, sym, Bool, true, cond, List, ℕ, suc, zero, ◌<◌, arith, ltb, ℤ}
+use Rattle.whole.proofs.Basics.{◌≡◌, refl, Bool, true, cond, List, ℕ, suc, zero, ◌<◌, arith, ltb, ℤ}
 use mathlib.Core.Bool.{◌&&◌, and-true, and_assoc}
 use Rattle.word.specs.Exact.{exact_product, square_exact, whole_at}
 use Rattle.word.proofs.LooseLaws.{whole_none, counted_mark}
@@ -8,16 +8,17 @@ use Rattle.fraction.specs.Fraction.{b_at, a_after, at, rest_of, next_of}
 use Rattle.fraction.specs.Exact.{step_exact, outward_exact, square_used}
 
 -- ---- the walk: at depth 0, and one step, at j = i + 1
-pub exact_done : (before : Bool) (s : ℕ) (first rest : ℤ) (ws : List ℤ) (t : ℤ) → before ≡ (before && outward_exact s first rest ws 0 t)
+pub mark_done : (before : Bool) (s : ℕ) (first rest : ℤ) (ws : List ℤ) (j : ℕ) (t : ℤ) → j ≡ 0 → (before && outward_exact s first rest ws j t) ≡ before
 unfolding outward_exact
-exact_done before s first rest ws t = sym (and-true before)
+mark_done before s first rest ws j t e = rw e (and-true before)
 
-pub exact_step :
-    (before : Bool) (s : ℕ) (first rest : ℤ) (ws : List ℤ) (i : ℕ) (t : ℤ)
+pub step_mark :
+    (before : Bool) (s : ℕ) (first rest : ℤ) (ws : List ℤ) (i j : ℕ) (t : ℤ)
+    → j ≡ suc i
     → ((before && step_exact s (a_after ws i) (at first rest i) t) && outward_exact s first rest ws i (next_of s (a_after ws i) (b_at ws i) (at first rest i) t))
-    ≡ (before && outward_exact s first rest ws (suc i) t)
+    ≡ (before && outward_exact s first rest ws j t)
 unfolding outward_exact
-exact_step before s first rest ws i t = and_assoc before _ _
+step_mark before s first rest ws i j t e = rw e (and_assoc before _ _)
 
 -- ---- the square: where it is used, and that what counts of it tells its mark
 pub used_in_two : (mode k : ℕ) → 1 < mode → square_used mode k ≡ ltb 1 k

@@ -4,16 +4,16 @@ use Rattle.whole.proofs.Order.{abs_add, abs_least}
 use Rattle.word.specs.Words.{Word, NotZero, product_of, quotient_of, bound_product}
 use Rattle.word.proofs.WordLaws.{product_within, square_within, quotient_within}
 use Rattle.word.specs.Lists.{All}
-use Rattle.admission.specs.declared.Admission.TheVariants.{Admitted}
 use Rattle.admission.proofs.AdmissionLaws.{ranged_out, apart_out}
 use Rattle.fraction.specs.Fraction.{b_at, a_after, at, first_of, rest_of, next_of, outward_numbers, outward_divisors, fraction_numbers, fraction_divisors}
 use Rattle.fraction.specs.Admission.{g_bound, q_bound, admit_from, fraction_admission}
 use Rattle.fraction.specs.Ready.{OutwardReady, FractionReady}
 use Rattle.fraction.proofs.WalkLaws.{at_size}
+use Rattle.admission.specs.Admission.{granted}
 
 -- ---- the walk: first and rest are bounded by F and R, and what stands at depth j is of size L or more
 module _ (s : ℕ) (first rest : ℤ) (F R : ℕ) (ws : List ℤ) (f : nat_abs first ≤ F) (g : nat_abs rest ≤ R) where
-  pub outward_stays : (j L : ℕ) (t : ℤ) → L ≤ nat_abs t → admit_from s F R ws j L ≡ Admitted → All Word (outward_numbers s first rest ws j t) × All NotZero (outward_divisors s first rest ws j t)
+  pub outward_stays : (j L : ℕ) (t : ℤ) → L ≤ nat_abs t → admit_from s F R ws j L ≡ granted → All Word (outward_numbers s first rest ws j t) × All NotZero (outward_divisors s first rest ws j t)
   unfolding admit_from outward_numbers outward_divisors
   outward_stays zero L t h e = (tt, tt)
   outward_stays (suc i) L t h e =
@@ -36,7 +36,7 @@ first_size zero s A x h = h
 first_size (suc zero) s A x h = square_within s A x h
 first_size (suc (suc m)) s A x h = h
 
-pub fraction_stays : (s A mode : ℕ) (ws : List ℤ) (k : ℕ) (x : ℤ) → nat_abs x ≤ A → fraction_admission s A mode ws k ≡ Admitted → All Word (fraction_numbers s mode ws k x) × All NotZero (fraction_divisors s mode ws k x)
+pub fraction_stays : (s A mode : ℕ) (ws : List ℤ) (k : ℕ) (x : ℤ) → nat_abs x ≤ A → fraction_admission s A mode ws k ≡ granted → All Word (fraction_numbers s mode ws k x) × All NotZero (fraction_divisors s mode ws k x)
 fraction_stays s A zero ws k x h e = outward_stays s x x A A ws h h k (nat_abs (b_at ws k)) (b_at ws k) (omega arith) e
 fraction_stays s A (suc m) ws k x h e =
     let S = bound_product s A A in

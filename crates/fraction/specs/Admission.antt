@@ -2,9 +2,7 @@
 use Rattle.std.specs.Prelude.{◌≡◌, refl, List, [], ◌∷◌, ℕ, zero, suc, ◌+◌, ◌-◌, ℤ, pos, negsuc, nat_abs}
 use Rattle.word.specs.Rounded.{rounded_up}
 use Rattle.word.specs.Words.{bound_product, bound_quotient}
-use Rattle.admission.specs.Admission.{admission_number, ranged, apart}
-use Rattle.admission.specs.declared.Admission.{Admission}
-use Rattle.admission.specs.declared.Admission.TheVariants.{Admitted}
+use Rattle.admission.specs.Admission.{admission_number, ranged, apart, Admission, granted}
 use Rattle.fraction.specs.Fraction.{b_at, a_after, at, first_of}
 
 -- G is the bound product of |a| and the bound of v, Q the bound quotient of G by L
@@ -18,7 +16,7 @@ q_bound s a v L = bound_quotient s (g_bound s a v) L
 -- and the next L is |b_(j-1)| - Q (a difference of naturals is 0 where it would be negative: both are below 1).
 -- Outermost, at depth 0, nothing is divided by what stands there, so its L is not tested
 unfoldable pub admit_from : ℕ → ℕ → ℕ → List ℤ → ℕ → ℕ → Admission
-admit_from s first rest ws zero L = Admitted
+admit_from s first rest ws zero L = granted
 admit_from s first rest ws (suc i) L =
     apart L
     (ranged (g_bound s (a_after ws i) (at first rest i))

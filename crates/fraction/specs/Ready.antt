@@ -2,9 +2,9 @@
 use Rattle.std.specs.Prelude.{◌≡◌, List, ℕ, ◌+◌, ◌<◌, ◌≤◌, ℤ, nat_abs, length}
 use Rattle.word.specs.Words.{Word, NotZero, Scale, product_of, quotient_of}
 use Rattle.word.specs.Lists.{All, Words}
-use Rattle.admission.specs.declared.Admission.TheVariants.{Admitted}
 use Rattle.fraction.specs.Fraction.{next_of, outward_numbers, outward_divisors}
 use Rattle.fraction.specs.Admission.{fraction_admission}
+use Rattle.admission.specs.Admission.{granted}
 
 -- one step: its operands and all that it forms are words, and t is not 0
 pub record StepReady (s : ℕ) (a b v t : ℤ) : Type 0 where
@@ -37,4 +37,4 @@ pub record FractionReady (s mode : ℕ) (ws : List ℤ) (k : ℕ) (x : ℤ) : Ty
   pub x_word : Word x
   pub most : ℕ
   pub within : nat_abs x ≤ most
-  pub admitted : fraction_admission s most mode ws k ≡ Admitted
+  pub admitted : fraction_admission s most mode ws k ≡ granted

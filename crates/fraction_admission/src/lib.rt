@@ -1,109 +1,77 @@
-// Admission of continued fractions over words that stand in bytes, from `at` on: b0, a1, b1, a2, ..
+// Admission of continued fractions over the stored words b0, a1, b1, a2, ..: of m words the depth is m / 2.
 #![tactic(auto)]
 
-ghost use Rattle.std.specs.Prelude.{◌≡◌, ◌+◌, ◌^◌, ◌≤◌};
-ghost use Rattle.stored.specs.Words.{words, Stretch};
+ghost use Rattle.std.specs.Prelude.{◌≡◌, ◌/◌, ◌%◌, ◌^◌, ◌≤◌, length};
+ghost use Rattle.stored.specs.Words.{values};
 ghost use Rattle.admission.specs.Admission.{Judged};
-ghost use Rattle.fraction.specs.Fraction.{at, first_of};
 ghost use Rattle.fraction.specs.Admission.{admit_inner, fraction_admission};
 ghost use Rattle.fraction_admission.specs.Terms.{judged_term, TermAsked, AdmissionAsked};
 
-use admission::Admission;
+use admission::NotAdmitted;
 
-// What the bounds of one term leave: the least size of what stands there (0: it may reach 0), or that the range may be left.
-#[derive(Drop)]
-enum TermBound {
-    Least(u32),
-    Beyond,
-}
-
-// The bounds of b + a·v/d, where |v| is at most `v` and |d| at least l.
-fn term_bound(a: i32, b: i32, v: u32, l: u32, s: u32) -> TermBound
+// The least size of b + a·v/d (0: it may reach 0), where |v| is at most `v` and |d| at least l; none where the range may be left.
+fn term_bound(a: i32, b: i32, v: u32, l: u32, s: u32) -> Option<u32>
     requires { TermAsked s l }
     ensures { result ≡ judged_term s a b v l }
 {
     let size = word::magnitude(a);
     if word::LARGEST < size as u64 {
-        return TermBound::Beyond;
+        return None;
     }
     let g = word::bound_product(size, v, s);
     if word::LARGEST < g {
-        return TermBound::Beyond;
+        return None;
     }
     let q = word::bound_quotient(g as u32, l, s);
     let c = word::magnitude(b) as u64;
     if word::LARGEST < c + q {
-        return TermBound::Beyond;
+        return None;
     }
     if c <= q {
-        return TermBound::Least(0);
+        return Some(0);
     }
-    TermBound::Least((c - q) as u32)
-}
-
-// The bound of v_(i + 1): the first one, or one of the rest.
-fn factor_bound(i: usize, first: u32, rest: u32) -> u32
-    ensures { result ≡ at first rest i }
-{
-    if i == 0 { first } else { rest }
+    Some((c - q) as u32)
 }
 
 // From the innermost term outward: `first` bounds |v_1|, `rest` the others.
-fn admit_inner(b: &[u8], at: usize, k: usize, first: u32, rest: u32, s: u32) -> Admission
-    requires { Stretch b.now at (k + k + 1) × AdmissionAsked s k }
-    ensures { Judged (words b.now at (k + k + 1)) (admit_inner s first rest (words b.now at (k + k + 1)) k) result }
+fn admit_inner(words: &[[u8; 4]], first: u32, rest: u32, s: u32) -> Result<(), NotAdmitted>
+    requires odd { length words.now % 2 ≡ 1 }
+    requires asked { AdmissionAsked s (length words.now / 2) }
+    ensures { Judged (values words.now) (admit_inner s first rest (values words.now) (length words.now / 2)) result }
 {
-    let mut j = k;
-    let mut l = word::magnitude(stored::get_word(b, at + 8 * k));
+    let k = words.len() / 2;
+    let mut l = word::magnitude(stored::value(&words[2 * k]));
     if word::LARGEST < l as u64 {
-        return Admission::RangeLeft;
+        return Err(NotAdmitted::RangeLeft);
     }
-    if l == 0 {
-        return Admission::DivisorZero;
-    }
-    while j > 0 {
-        j -= 1;
-        let place = at + 8 * j;
-        let bound = term_bound(
-            stored::get_word(b, place + 4),
-            stored::get_word(b, place),
-            factor_bound(j, first, rest),
-            l,
-            s,
-        );
-        let TermBound::Least(least) = bound else {
-            return Admission::RangeLeft;
-        };
-        if least == 0 {
-            if j == 0 {
-                return Admission::Admitted;
-            }
-            return Admission::DivisorZero;
+    for i in (0..k).rev() {
+        if l == 0 {
+            return Err(NotAdmitted::DivisorZero);
         }
+        let a = stored::value(&words[2 * i + 1]);
+        let b = stored::value(&words[2 * i]);
+        let Some(least) = term_bound(a, b, fraction::at(first, rest, i), l, s) else {
+            return Err(NotAdmitted::RangeLeft);
+        };
         l = least;
     }
-    Admission::Admitted
-}
-
-// The bound of v1, by the bounds of x and of its square.
-fn first_bound(mode: u32, most: u32, square: u32) -> u32
-    ensures { result ≡ first_of mode most square }
-{
-    if mode == 1 { square } else { most }
+    Ok(())
 }
 
 // `most` is the larger of |lo| and |hi|.
-pub fn admit(b: &[u8], at: usize, k: usize, mode: u32, most: u32, s: u32) -> Admission
-    requires { Stretch b.now at (k + k + 1) × AdmissionAsked s k × (most ≤ 2 ^ 31) }
-    ensures { Judged (words b.now at (k + k + 1)) (fraction_admission s most mode (words b.now at (k + k + 1)) k) result }
+pub fn admit(words: &[[u8; 4]], mode: u32, most: u32, s: u32) -> Result<(), NotAdmitted>
+    requires odd { length words.now % 2 ≡ 1 }
+    requires asked { AdmissionAsked s (length words.now / 2) }
+    requires most { most ≤ 2 ^ 31 }
+    ensures { Judged (values words.now) (fraction_admission s most mode (values words.now) (length words.now / 2)) result }
 {
-    if mode == 0 {
-        return admit_inner(b, at, k, most, most, s);
+    let mut rest = most;
+    if mode != 0 {
+        let square = word::bound_product(most, most, s);
+        if word::LARGEST < square {
+            return Err(NotAdmitted::RangeLeft);
+        }
+        rest = square as u32;
     }
-    let square = word::bound_product(most, most, s);
-    if word::LARGEST < square {
-        return Admission::RangeLeft;
-    }
-    let rest = square as u32;
-    admit_inner(b, at, k, first_bound(mode, most, rest), rest, s)
+    admit_inner(words, fraction::first_of(mode, most, rest), rest, s)
 }

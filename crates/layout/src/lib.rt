@@ -2,15 +2,16 @@
 // out of a sheet.
 #![tactic(auto)]
 
-ghost use Rattle.std.specs.Prelude.{◌≡◌, [], ◌+◌, ◌*◌, ◌≤◌, length};
-ghost use Rattle.stored.specs.Words.{words, Stretch};
+ghost use Rattle.std.specs.Prelude.{◌≡◌, [], ◌+◌, ◌≤◌, length};
+ghost use Rattle.stored.specs.Words.{values};
 ghost use Rattle.table.specs.Rule.{Ruled};
-ghost use Rattle.layout.specs.Fields.{bytes_at, Reaches, code_of, count_of, formula_number, lo_of, hi_of, first_count, field_of, shape_of, padded, formula_of, Complete};
+ghost use Rattle.layout.specs.Fields.{bytes_at, Reaches, code_of, count_of, formula_number, lo_of, hi_of, first_count, field_of, shape_of, words_of, padded, formula_of, Complete};
 
 use formula::{Formula, Shape};
 use table::{Field, Row};
 
 // The record that stands at a place of a sheet.
+#[tactic(auto, unfolding(crate::specs::Fields::bytes_at))]
 pub fn record_at(s: &[u8], at: usize) -> &[u8]
     requires { Reaches s.now at }
     ensures { result.now ≡ bytes_at s.now at }
@@ -57,6 +58,7 @@ pub fn hi(b: &[u8]) -> i32
     stored::get_word(b, 12)
 }
 
+#[tactic(auto, unfolding(crate::specs::Fields::first_count))]
 fn first_count(b: &[u8], row: Row) -> u16
     requires { Ruled row × (row.head ≤ length b.now) × (length b.now ≤ 120) }
     ensures { result ≡ first_count row b.now }
@@ -67,6 +69,7 @@ fn first_count(b: &[u8], row: Row) -> u16
     stored::get2(b, row.p.at)
 }
 
+#[tactic(auto, unfolding(crate::specs::Fields::field_of))]
 fn field_of(b: &[u8], field: Field) -> u16
     requires { field.at + 2 ≤ length b.now }
     ensures { result ≡ field_of field b.now }
@@ -77,6 +80,7 @@ fn field_of(b: &[u8], field: Field) -> u16
     stored::get2(b, field.at)
 }
 
+#[tactic(auto, unfolding(crate::specs::Fields::shape_of))]
 pub fn shape_of(b: &[u8], row: Row) -> Shape
     requires { Ruled row × (row.head ≤ length b.now) × (length b.now ≤ 120) }
     ensures { result ≡ shape_of row b.now }
@@ -92,31 +96,40 @@ pub fn shape_of(b: &[u8], row: Row) -> Shape
     }
 }
 
-// The m words from a place on, into an array of zeros.
-fn fill_words(b: &[u8], at: usize, m: usize, out: &mut [i32; 32])
-    requires { (m ≤ 32) × Stretch b.now at m × (out.old ≡ padded []) }
-    ensures { out.new ≡ padded (words b.now at m) }
+// The words of a formula record, which stand behind its head.
+#[tactic(auto, using(crate::proofs::Complete::words_behind))]
+pub fn words(b: &[u8], row: Row) -> &[[u8; 4]]
+    requires { Complete row b.now }
+    ensures { values result.now ≡ words_of row b.now }
 {
-    let mut i: usize = 0;
-    while i < m {
-        out[i] = stored::get_word(b, at + 4 * i);
-        i += 1;
+    stored::words(&b[row.head..])
+}
+
+// Their values, into an array of zeros.
+#[tactic(auto, using(crate::proofs::Padded::turn))]
+fn fill_words(words: &[[u8; 4]], out: &mut [i32; 32])
+    requires { (length words.now ≤ 32) × (out.old ≡ padded []) }
+    ensures { out.new ≡ padded (values words.now) }
+{
+    for (i, word) in words.iter().enumerate() {
+        out[i] = stored::value(word);
     }
 }
 
 // The whole formula, for a caller that asks for it: the only place where a record's words are copied.
+#[tactic(auto, using(crate::proofs::Complete::array_holds), unfolding(crate::specs::Fields::formula_of, crate::specs::Fields::padded))]
 pub fn formula_of(b: &[u8], row: Row) -> Formula
     requires { Complete row b.now }
     ensures { result ≡ formula_of row b.now }
 {
     let shape = shape_of(b, row);
-    let mut words = [0i32; 32];
-    fill_words(b, row.head, (b.len() - row.head) / 4, &mut words);
+    let mut copied = [0i32; 32];
+    fill_words(words(b, row), &mut copied);
     Formula {
         number: number(b),
         shape,
         lo: lo(b),
         hi: hi(b),
-        words,
+        words: copied,
     }
 }

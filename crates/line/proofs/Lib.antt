@@ -1,1 +1,2 @@
--- The functions' proofs need no laws of their own.
+-- How a record's line is made up, and how long it is.
+pub mod LineLaws

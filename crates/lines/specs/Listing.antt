@@ -1,5 +1,5 @@
 -- The listing of a sheet: `too long`, or `refused` with number and place, or the formula count and a line for each formula.
-use Rattle.std.specs.Prelude.{ℕ, zero, suc, ◌+◌, ◌≡◌, refl, List, [], ◌∷◌, ◌++◌, Bool, true, false, cond, ltb, length, take, replicate}
+use Rattle.std.specs.Prelude.{ℕ, zero, suc, ◌+◌, ◌≡◌, refl, List, [], ◌∷◌, ◌++◌, Bool, true, false, cond, ltb, length, take, replicate, Err, Ok}
 use Rattle.word.specs.Rounded.{rounded_up}
 use Rattle.word.specs.Words.{unit}
 use Rattle.stored.specs.Numbers.{number2, number4}
@@ -11,9 +11,7 @@ use Rattle.layout.specs.Fields.{bytes_at, first_count, field_of, shape_of, formu
 use Rattle.faults.specs.Faults.{frame_fault, outside, count_fault, size_fault, length_fault, start_fault, scale_fault, order_fault, end_fault, own_fault, interval_fault, words_fault}
 use Rattle.records.specs.Records.{value_fault}
 use Rattle.walking.specs.Walking.{record_fault, fault_at, found_by, ending, walk_from, walk_of}
-use Rattle.sheet.specs.declared.answers.FormulaCount.{FormulaCount}
-use Rattle.sheet.specs.declared.answers.FormulaCount.TheVariants.{Count, Refused}
-use Rattle.sheet.specs.Reader.{formula_count, formula_in, formula_at}
+use Rattle.sheet.specs.Reader.{formula_count, formula_in, formula_at, FormulaCount}
 use Rattle.text.specs.Text.{text, digits_by, decimal}
 use Rattle.line.specs.Line.{line_of, count_line, refusal_line}
 
@@ -28,8 +26,8 @@ lines_from (suc n) bytes place = line_of (formula_at bytes place) ++ lines_from 
 
 -- the first formula stands behind the start record
 abbrev pub listing_by : List ℕ → FormulaCount → List ℕ
-listing_by bytes (Refused r) = refusal_line r
-listing_by bytes (Count c) = count_line c ++ lines_from c bytes (number4 bytes 0)
+listing_by bytes (Err r) = refusal_line r
+listing_by bytes (Ok c) = count_line c ++ lines_from c bytes (number4 bytes 0)
 
 -- more bytes than the programs take
 abbrev pub too_long : ℕ → Bool

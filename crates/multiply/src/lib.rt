@@ -35,9 +35,9 @@ fn upper_word(high: u32, first: u32, second: u32, low: u32) -> u32
     requires { OfHalves high × OfHalves first × OfHalves second }
     ensures { result ≡ high + middle_and_low first second low / 2 ^ 32 }
 {
-    let carry = split(first + (split(low).high as u32));
-    let last = split(second + (carry.low as u32));
-    high + (carry.high as u32) + (last.high as u32)
+    let carry = split(first + u32::from(split(low).high));
+    let last = split(second + u32::from(carry.low));
+    high + u32::from(carry.high) + u32::from(last.high)
 }
 
 // The lower 32 bits: what a sum carries beyond them is in the upper ones. A compiler may recognise both words of a product in these
@@ -45,8 +45,8 @@ fn upper_word(high: u32, first: u32, second: u32, low: u32) -> u32
 fn lower_word(first: u32, second: u32, low: u32) -> u32
     ensures { result ≡ middle_and_low first second low % 2 ^ 32 }
 {
-    let middle = std::num::wrapping_add_u32(first, second);
-    std::num::wrapping_add_u32(middle << 16, low)
+    let middle = first.wrapping_add(second);
+    (middle << 16).wrapping_add(low)
 }
 
 // a·b from the four products of their halves.
@@ -59,5 +59,5 @@ pub fn long_times(a: u32, b: u32) -> u64
     let second = times(x.low, y.high);
     let low = times(x.low, y.low);
     let upper = upper_word(times(x.high, y.high), first, second, low);
-    ((upper as u64) << 32) + (lower_word(first, second, low) as u64)
+    (u64::from(upper) << 32) + u64::from(lower_word(first, second, low))
 }

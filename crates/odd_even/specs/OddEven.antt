@@ -1,13 +1,9 @@
 -- The kinds `even` and `odd` over words at s binary places; the s of the request is `square_of s x`. A list holds c0, c1, .. cn, as a polynomial's
 -- does. A is the larger of |lo| and |hi|, M the largest word.
-use Rattle.std.specs.Prelude.{◌≡◌, refl, cond, List, [], ◌∷◌, ℕ, ltb, ℤ, pos, negsuc}
+use Rattle.std.specs.Prelude.{◌≡◌, refl, cond, List, [], ◌∷◌, ℕ, ltb, ℤ, pos, negsuc, None, Option}
 use Rattle.word.specs.Rounded.{rounded, rounded_up}
 use Rattle.word.specs.Words.{largest, Word, product_of, bound_product}
-use Rattle.admission.specs.Admission.{admission_number, ranged}
-use Rattle.admission.specs.declared.Admission.{Admission}
-use Rattle.admission.specs.declared.Admission.TheVariants.{Admitted}
-use Rattle.polynomial.specs.declared.Bounding.{Bounding}
-use Rattle.polynomial.specs.declared.Bounding.TheVariants.{Beyond}
+use Rattle.admission.specs.Admission.{admission_number, ranged, Admission, granted}
 use Rattle.polynomial.specs.Polynomial.{horner, polynomial_numbers, bound_of, when_within, PolynomialReady}
 
 -- ---- the answers. The product of x with itself; even is the polynomial at it, odd the product of that word and x
@@ -28,15 +24,15 @@ abbrev pub odd_numbers : ℕ → List ℤ → ℤ → List ℤ
 odd_numbers s ws x = odd_of s ws x ∷ even_numbers s ws x
 
 -- ---- admission: S, the bound product of A with itself, above M gives 7; then the polynomial's bounds with S in place of A
-abbrev pub bound_at_square : ℕ → ℕ → List ℤ → Bounding
-bound_at_square s A ws = cond (ltb largest (bound_product s A A)) Beyond (bound_of s (bound_product s A A) ws)
+abbrev pub bound_at_square : ℕ → ℕ → List ℤ → Option ℕ
+bound_at_square s A ws = cond (ltb largest (bound_product s A A)) None (bound_of s (bound_product s A A) ws)
 
 abbrev pub even_admission : ℕ → ℕ → List ℤ → Admission
-even_admission s A ws = when_within (bound_at_square s A ws) (λ b. Admitted)
+even_admission s A ws = when_within (bound_at_square s A ws) (λ b. granted)
 
 -- then for odd the bound product of B_0 and A, above M giving 7
 abbrev pub odd_admission : ℕ → ℕ → List ℤ → Admission
-odd_admission s A ws = when_within (bound_at_square s A ws) (λ b. ranged (bound_product s b A) Admitted)
+odd_admission s A ws = when_within (bound_at_square s A ws) (λ b. ranged (bound_product s b A) granted)
 
 -- ---- what the answers ask of their callers: the polynomial is ready at the square, which is a word; of odd, the answer is a word
 abbrev pub EvenReady : ℕ → List ℤ → ℤ → Type 0

@@ -2,10 +2,10 @@
 use Rattle.whole.proofs.Basics.{◌≡◌, List, [], ◌∷◌, ℕ, suc, ◌≤◌, arith, ℤ, nat_abs}
 use Rattle.word.specs.Words.{Word}
 use Rattle.word.specs.Lists.{All}
-use Rattle.admission.specs.declared.Admission.TheVariants.{Admitted}
 use Rattle.polynomial.specs.Polynomial.{bound, bound_of, polynomial_numbers, polynomial_admission, InRange}
 use Rattle.polynomial.proofs.WalkLaws.{running_size, product_bound}
 use Rattle.polynomial.proofs.BoundLaws.{within_range, within_out}
+use Rattle.admission.specs.Admission.{granted}
 
 pub numbers_in_range : (s A : ℕ) (ws : List ℤ) (x : ℤ) → nat_abs x ≤ A → InRange s A ws → All Word (polynomial_numbers s ws x)
 unfolding polynomial_numbers bound
@@ -18,8 +18,8 @@ numbers_in_range s A (c ∷ cs) x h f = (
   ),
 )
 
-pub polynomial_in_range : (s A : ℕ) (ws : List ℤ) → polynomial_admission s A ws ≡ Admitted → InRange s A ws
-polynomial_in_range s A ws e = let q = within_out (bound_of s A ws) (λ b. Admitted) e in within_range s A ws q.0 q.1
+pub polynomial_in_range : (s A : ℕ) (ws : List ℤ) → polynomial_admission s A ws ≡ granted → InRange s A ws
+polynomial_in_range s A ws e = let q = within_out (bound_of s A ws) (λ b. granted) e in within_range s A ws q.0 q.1
 
-pub polynomial_stays : (s A : ℕ) (ws : List ℤ) (x : ℤ) → nat_abs x ≤ A → polynomial_admission s A ws ≡ Admitted → All Word (polynomial_numbers s ws x)
+pub polynomial_stays : (s A : ℕ) (ws : List ℤ) (x : ℤ) → nat_abs x ≤ A → polynomial_admission s A ws ≡ granted → All Word (polynomial_numbers s ws x)
 polynomial_stays s A ws x h e = numbers_in_range s A ws x h (polynomial_in_range s A ws e)

@@ -1,12 +1,8 @@
 -- Polynomials over words. A list holds c0, c1, .. cn. A is the larger of |lo| and |hi|, M the largest word.
-use Rattle.std.specs.Prelude.{◌≡◌, refl, cond, List, [], ◌∷◌, ℕ, ◌+◌, ◌<◌, ◌≤◌, ltb, ℤ, pos, nat_abs, ◌+ℤ◌, length, drop}
+use Rattle.std.specs.Prelude.{◌≡◌, refl, cond, List, [], ◌∷◌, ℕ, ◌+◌, ◌<◌, ◌≤◌, ltb, ℤ, pos, nat_abs, ◌+ℤ◌, length, drop, None, Option, Some}
 use Rattle.word.specs.Rounded.{rounded, rounded_up}
 use Rattle.word.specs.Words.{largest, Word, Scale, product_of, bound_product}
-use Rattle.admission.specs.Admission.{admission_number}
-use Rattle.admission.specs.declared.Admission.{Admission}
-use Rattle.admission.specs.declared.Admission.TheVariants.{Admitted, RangeLeft}
-use Rattle.polynomial.specs.declared.Bounding.{Bounding}
-use Rattle.polynomial.specs.declared.Bounding.TheVariants.{Within, Beyond}
+use Rattle.admission.specs.Admission.{admission_number, Admission, granted, range_left}
 
 -- ---- the answer: start with cn; for k from n-1 down to 0 take ck plus the product of the running word and x.
 -- Before cn the running word is 0, and so is its product: cn alone gives itself
@@ -25,24 +21,24 @@ bound s A [] = 0
 bound s A (c ∷ cs) = nat_abs c + bound_product s (bound s A cs) A
 
 -- the same, given up as soon as a B is above M
-abbrev pub bounded : ℕ → Bounding
-bounded b = cond (ltb largest b) Beyond (Within b)
+abbrev pub bounded : ℕ → Option ℕ
+bounded b = cond (ltb largest b) None (Some b)
 
-abbrev pub bound_next : ℕ → ℕ → ℤ → Bounding → Bounding
-bound_next s A c (Within b) = bounded (nat_abs c + bound_product s b A)
-bound_next s A c Beyond = Beyond
+abbrev pub bound_next : ℕ → ℕ → ℤ → Option ℕ → Option ℕ
+bound_next s A c (Some b) = bounded (nat_abs c + bound_product s b A)
+bound_next s A c None = None
 
-unfoldable pub bound_of : ℕ → ℕ → List ℤ → Bounding
-bound_of s A [] = Within 0
+unfoldable pub bound_of : ℕ → ℕ → List ℤ → Option ℕ
+bound_of s A [] = Some 0
 bound_of s A (c ∷ cs) = bound_next s A c (bound_of s A cs)
 
 -- any B above M gives refusal 7, else what follows, which may use B_0
-abbrev pub when_within : Bounding → (ℕ → Admission) → Admission
-when_within (Within b) next = next b
-when_within Beyond next = RangeLeft
+abbrev pub when_within : Option ℕ → (ℕ → Admission) → Admission
+when_within (Some b) next = next b
+when_within None next = range_left
 
 abbrev pub polynomial_admission : ℕ → ℕ → List ℤ → Admission
-polynomial_admission s A ws = when_within (bound_of s A ws) (λ b. Admitted)
+polynomial_admission s A ws = when_within (bound_of s A ws) (λ b. granted)
 
 -- ---- what the answer asks of its callers: a coefficient or more, and every B in range at |x|
 abbrev pub InRange : ℕ → ℕ → List ℤ → Type 0

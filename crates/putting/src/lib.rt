@@ -1,7 +1,7 @@
 // A record's bytes, put into a buffer: a formula's, without the fields that its kind has not, and those of a start and of an end.
 #![tactic(auto)]
 
-ghost use Rattle.std.specs.Prelude.{◌≡◌, ◌+◌, ◌*◌, ◌≤◌, length, take};
+ghost use Rattle.std.specs.Prelude.{◌≡◌, ◌+◌, ◌*◌, ◌≤◌, length};
 ghost use Rattle.std.proofs.lemmas.List.Edits.{sets};
 ghost use Rattle.table.specs.Table.{length_by};
 ghost use Rattle.table.specs.Rule.{Ruled};
@@ -12,6 +12,7 @@ ghost use Rattle.putting.specs.Bytes.{front_bytes, framing_bytes, head_bytes, fi
 use formula::{Formula, Shape};
 use table::{Field, Row};
 
+#[tactic(auto, unfolding(crate::specs::Plain::kept))]
 fn kept(field: Field, n: u16) -> u16
     ensures { result ≡ kept field n }
 {
@@ -22,6 +23,7 @@ fn kept(field: Field, n: u16) -> u16
 }
 
 // The shape with the counts and the mode that its kind has not at 0.
+#[tactic(auto, unfolding(crate::specs::Plain::plain_shape))]
 pub fn plain_shape(row: Row, shape: Shape) -> Shape
     ensures { result ≡ plain_shape row shape }
 {
@@ -38,6 +40,7 @@ pub fn plain_shape(row: Row, shape: Shape) -> Shape
 }
 
 // What every record begins with: length, kind, and number or count.
+#[tactic(auto, unfolding(crate::specs::Bytes::front_bytes, stored::specs::Numbers::bytes2, stored::specs::Numbers::bytes4))]
 fn put_front(out: &mut [u8], at: usize, n: u32, code: u16, number: u16)
     requires { at + 8 ≤ length out.old }
     ensures { out.new ≡ sets out.old at (front_bytes n code number) }
@@ -56,6 +59,7 @@ pub fn put_framing(out: &mut [u8], at: usize, row: Row, count: u16)
     put_front(out, at, row.head as u32, row.code, count);
 }
 
+#[tactic(auto, unfolding(crate::specs::Bytes::front_bytes, crate::specs::Bytes::head_bytes, stored::specs::Numbers::bytes2, stored::specs::Numbers::bytes4))]
 fn put_head(out: &mut [u8], n: u32, code: u16, number: u16, lo: i32, hi: i32)
     requires { 16 ≤ length out.old }
     ensures { out.new ≡ sets out.old 0 (head_bytes n code number lo hi) }
@@ -65,6 +69,7 @@ fn put_head(out: &mut [u8], n: u32, code: u16, number: u16, lo: i32, hi: i32)
     stored::put_word(out, 12, hi);
 }
 
+#[tactic(auto, unfolding(crate::specs::Bytes::field_bytes))]
 fn put_field(out: &mut [u8], field: Field, n: u16)
     requires { field.at + 2 ≤ length out.old }
     ensures { out.new ≡ sets out.old field.at (field_bytes field n) }
@@ -74,6 +79,7 @@ fn put_field(out: &mut [u8], field: Field, n: u16)
     }
 }
 
+#[tactic(auto, using(crate::proofs::PutLaws::fields_put))]
 fn put_fields(out: &mut [u8], row: Row, shape: Shape)
     requires { Ruled row × Ordered row × (20 ≤ length out.old) }
     ensures { out.new ≡ sets out.old 16 (fields_bytes row shape) }
@@ -86,19 +92,19 @@ fn put_fields(out: &mut [u8], row: Row, shape: Shape)
     put_field(out, q, shape.q);
 }
 
-// The first m words, from a place on.
-fn put_words(out: &mut [u8], at: usize, words: &[i32], m: usize)
-    requires { (m ≤ length words.now) × (at + 4 * m ≤ length out.old) }
-    ensures { out.new ≡ sets out.old at (word_bytes (take m words.now)) }
+// The words, from a place on.
+#[tactic(auto, using(crate::proofs::RecordLaws::turn), unfolding(crate::specs::Bytes::word_bytes))]
+fn put_words(out: &mut [u8], at: usize, words: &[i32])
+    requires { at + 4 * length words.now ≤ length out.old }
+    ensures { out.new ≡ sets out.old at (word_bytes words.now) }
 {
-    let mut i: usize = 0;
-    while i < m {
-        stored::put_word(out, at + 4 * i, words[i]);
-        i += 1;
+    for (i, word) in words.iter().enumerate() {
+        stored::put_word(out, at + 4 * i, *word);
     }
 }
 
 // The record's bytes at the start of the buffer, and their number.
+#[tactic(auto, using(crate::proofs::PutLaws::first_counts, crate::proofs::PutLaws::second_counts, crate::proofs::PutLaws::reach, crate::proofs::PutLaws::all_put, stored::proofs::Back::back))]
 pub fn put_record(row: Row, shape: Shape, f: Formula, out: &mut [u8; 120]) -> usize
     requires shape { shape ≡ plain_shape row f.shape }
     requires ready { Ready row (plain_by row f) }
@@ -109,6 +115,6 @@ pub fn put_record(row: Row, shape: Shape, f: Formula, out: &mut [u8; 120]) -> us
     let n = table::length_by(row, shape.p, shape.q);
     put_head(out, n as u32, row.code, f.number, f.lo, f.hi);
     put_fields(out, row, shape);
-    put_words(out, row.head, &f.words, m);
+    put_words(out, row.head, &f.words[..m]);
     n
 }

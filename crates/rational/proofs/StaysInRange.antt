@@ -4,7 +4,6 @@ use Rattle.whole.proofs.Order.{abs_least}
 use Rattle.word.specs.Words.{Word, NotZero, product_of, bound_quotient}
 use Rattle.word.proofs.WordLaws.{quotient_within}
 use Rattle.word.specs.Lists.{All}
-use Rattle.admission.specs.declared.Admission.TheVariants.{Admitted}
 use Rattle.admission.proofs.AdmissionLaws.{ranged_out, apart_out}
 use Rattle.word.proofs.ListLaws.{all_append}
 use Rattle.polynomial.specs.Polynomial.{horner, polynomial_numbers, bound_of, InRange}
@@ -12,6 +11,7 @@ use Rattle.polynomial.proofs.WalkLaws.{horner-drop, running_size, product_bound,
 use Rattle.polynomial.proofs.BoundLaws.{within_is, within_range, within_out}
 use Rattle.polynomial.proofs.StaysInRange.{numbers_in_range}
 use Rattle.rational.specs.Rational.{least, rational_of, rational_numbers, rational_divisors, rational_admission}
+use Rattle.admission.specs.Admission.{granted}
 
 pub record RationalStays (s : ℕ) (num den : List ℤ) (x : ℤ) : Type 0 where
   pub numbers : All Word (rational_numbers s num den x)
@@ -28,12 +28,12 @@ divisor_least s A den x n h =
     let e : horner s den x ≡ get_or den 0 (pos 0) +ℤ p = horner-drop s den 0 x n in
     omega (arith, ap nat_abs e, abs_least (get_or den 0 (pos 0)) p, product_bound s A (drop 1 den) x h)
 
-pub rational_stays : (s A : ℕ) (num den : List ℤ) (x : ℤ) → 0 < length den → nat_abs x ≤ A → rational_admission s A num den ≡ Admitted → RationalStays s num den x
+pub rational_stays : (s A : ℕ) (num den : List ℤ) (x : ℤ) → 0 < length den → nat_abs x ≤ A → rational_admission s A num den ≡ granted → RationalStays s num den x
 rational_stays s A num den x n h e =
     let t = within_out (bound_of s A num) _ e in
     let b = within_out (bound_of s A den) _ t.2 in
     let l = apart_out (least s A den) _ b.2 in
-    let r = ranged_out (bound_quotient s t.0 (least s A den)) Admitted l.1 in
+    let r = ranged_out (bound_quotient s t.0 (least s A den)) granted l.1 in
     let top = within_range s A num t.0 t.1 in
     let bottom = within_range s A den b.0 b.1 in
     let d = divisor_least s A den x n h in

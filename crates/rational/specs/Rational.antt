@@ -2,9 +2,7 @@
 use Rattle.std.specs.Prelude.{◌≡◌, refl, List, [], ◌∷◌, ◌++◌, ℕ, ◌+◌, ◌-◌, ◌<◌, ◌≤◌, ℤ, pos, negsuc, nat_abs, length, get_or, drop}
 use Rattle.word.specs.Rounded.{rounded, rounded_up}
 use Rattle.word.specs.Words.{Word, Scale, quotient_of, bound_product, bound_quotient}
-use Rattle.admission.specs.Admission.{admission_number, ranged, apart}
-use Rattle.admission.specs.declared.Admission.{Admission}
-use Rattle.admission.specs.declared.Admission.TheVariants.{Admitted}
+use Rattle.admission.specs.Admission.{admission_number, ranged, apart, Admission, granted}
 use Rattle.polynomial.specs.Polynomial.{horner, polynomial_numbers, bound, bound_of, when_within}
 
 -- ---- the answer: the quotient of numerator by divisor
@@ -29,20 +27,20 @@ rational_admission s A num den =
     when_within (bound_of s A num) (λ top.
     when_within (bound_of s A den) (λ bottom.
     apart (least s A den)
-    (ranged (bound_quotient s top (least s A den)) Admitted)))
+    (ranged (bound_quotient s top (least s A den)) granted)))
 
 -- the end of this chain, from |d0| and B_1 of the divisor on, where B_1 is in range
 abbrev pub ratio_admission : ℕ → ℕ → ℕ → ℕ → ℕ → Admission
 ratio_admission s A top first rest =
     ranged (first + bound_product s rest A)
     (apart (first - bound_product s rest A)
-    (ranged (bound_quotient s top (first - bound_product s rest A)) Admitted))
+    (ranged (bound_quotient s top (first - bound_product s rest A)) granted))
 
 -- ---- what the answer asks of its callers: admitted at some A not below |x|
 pub record RationalAdmitted (s : ℕ) (num den : List ℤ) (x : ℤ) : Type 0 where
   pub most : ℕ
   pub within : nat_abs x ≤ most
-  pub admitted : rational_admission s most num den ≡ Admitted
+  pub admitted : rational_admission s most num den ≡ granted
 
 abbrev pub RationalReady : ℕ → List ℤ → List ℤ → ℤ → Type 0
 RationalReady s num den x = Scale s × Word x × (0 < length num) × (0 < length den) × RationalAdmitted s num den x

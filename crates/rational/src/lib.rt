@@ -1,24 +1,23 @@
-// Rational formulas over words that stand in bytes: a numerator of p coefficients from `at` on, and behind it a divisor of q.
+// Rational formulas over words that stand in bytes: the coefficients of a numerator and of a divisor.
 #![tactic(auto)]
 
-ghost use Rattle.std.specs.Prelude.{◌≡◌, ◌+◌, ◌*◌, ◌<◌, ◌≤◌};
+ghost use Rattle.std.specs.Prelude.{◌≡◌, ◌<◌, ◌≤◌, length};
 ghost use Rattle.word.specs.Words.{Scale, largest};
 ghost use Rattle.word.specs.Exact.{whole_at};
-ghost use Rattle.stored.specs.Words.{words, Stretch};
+ghost use Rattle.stored.specs.Words.{values};
 ghost use Rattle.rational.specs.Rational.{rational_of, rational_admission, ratio_admission, RationalReady};
 ghost use Rattle.rational.specs.Exact.{rational_exact};
 
-use admission::Admission;
-use polynomial::Bounding;
+use admission::NotAdmitted;
 use word::Marked;
 
-pub fn answer(b: &[u8], at: usize, p: usize, q: usize, x: i32, s: u32) -> Marked
-    requires { Stretch b.now at (p + q) × RationalReady s (words b.now at p) (words b.now (at + 4 * p) q) x }
-    ensures word { result.word ≡ rational_of s (words b.now at p) (words b.now (at + 4 * p) q) x }
-    ensures mark { whole_at s result.loose ≡ rational_exact s (words b.now at p) (words b.now (at + 4 * p) q) x }
+pub fn answer(numerator: &[[u8; 4]], divisor: &[[u8; 4]], x: i32, s: u32) -> Marked
+    requires { RationalReady s (values numerator.now) (values divisor.now) x }
+    ensures word { result.word ≡ rational_of s (values numerator.now) (values divisor.now) x }
+    ensures mark { whole_at s result.loose ≡ rational_exact s (values numerator.now) (values divisor.now) x }
 {
-    let n = polynomial::answer(b, at, p, x, s);
-    let d = polynomial::answer(b, at + 4 * p, q, x, s);
+    let n = polynomial::answer(numerator, x, s);
+    let d = polynomial::answer(divisor, x, s);
     let r = word::quotient(n.word, d.word, s);
     let word = r.value as i32;
     let loose = n.loose | d.loose | r.loose;
@@ -26,36 +25,40 @@ pub fn answer(b: &[u8], at: usize, p: usize, q: usize, x: i32, s: u32) -> Marked
 }
 
 // The tests after the bounds: `top` is the numerator's B_0, `first` is |d0| and `rest` the divisor's B_1.
-fn admit_ratio(top: u32, first: u32, rest: u32, most: u32, s: u32) -> Admission
+fn admit_ratio(top: u32, first: u32, rest: u32, most: u32, s: u32) -> Result<(), NotAdmitted>
     requires { Scale s × (rest ≤ largest) }
     ensures { result ≡ ratio_admission s most top first rest }
 {
     let d = first as u64;
     let g = word::bound_product(rest, most, s);
     if word::LARGEST < d + g {
-        return Admission::RangeLeft;
+        return Err(NotAdmitted::RangeLeft);
     }
     if d <= g {
-        return Admission::DivisorZero;
+        return Err(NotAdmitted::DivisorZero);
     }
     if word::LARGEST < word::bound_quotient(top, (d - g) as u32, s) {
-        return Admission::RangeLeft;
+        return Err(NotAdmitted::RangeLeft);
     }
-    Admission::Admitted
+    Ok(())
 }
 
 // `most` is the larger of |lo| and |hi|.
-pub fn admit(b: &[u8], at: usize, p: usize, q: usize, most: u32, s: u32) -> Admission
-    requires { Scale s × Stretch b.now at (p + q) × (0 < q) }
-    ensures { result ≡ rational_admission s most (words b.now at p) (words b.now (at + 4 * p) q) }
+pub fn admit(
+    numerator: &[[u8; 4]],
+    divisor: &[[u8; 4]],
+    most: u32,
+    s: u32,
+) -> Result<(), NotAdmitted>
+    requires { Scale s × (0 < length divisor.now) }
+    ensures { result ≡ rational_admission s most (values numerator.now) (values divisor.now) }
 {
-    let den = at + 4 * p;
-    let Bounding::Within(top) = polynomial::bound(b, at, p, most, s) else {
-        return Admission::RangeLeft;
+    let Some(top) = polynomial::bound(numerator, most, s) else {
+        return Err(NotAdmitted::RangeLeft);
     };
-    let Bounding::Within(rest) = polynomial::bound(b, den + 4, q - 1, most, s) else {
-        return Admission::RangeLeft;
+    let Some(rest) = polynomial::bound(&divisor[1..], most, s) else {
+        return Err(NotAdmitted::RangeLeft);
     };
-    let first = word::magnitude(stored::get_word(b, den));
+    let first = word::magnitude(stored::value(&divisor[0]));
     admit_ratio(top, first, rest, most, s)
 }

@@ -7,20 +7,19 @@ use Rattle.table.specs.Table.{length_by}
 use Rattle.layout.specs.Fields.{words_in}
 use Rattle.putting.specs.Plain.{Handed, plain_by, row_by, plain}
 use Rattle.putting.proofs.RecordBack.{Tidy}
-use Rattle.faults.specs.Guard.{guard}
+use Rattle.refusal.specs.Guard.{guard, refused_number}
 use Rattle.faults.specs.Faults.{count_fault, scale_fault}
 use Rattle.faults.proofs.ScaleLaws.{good_scale}
 use Rattle.records.specs.Records.{value_fault, only_formula}
 use Rattle.records.proofs.FormulaLaws.{only_formula_lem}
-use Rattle.record_writer.specs.Answers.{writing_number, refused_by}
+use Rattle.record_writer.specs.Answers.{refused_by, Writing}
 use Rattle.record_writer.specs.RecordWriter.{room_writing, plain_writing, record_writing}
-use Rattle.record_writer.specs.declared.answers.Writing.{Writing}
 use Rattle.record_writer.proofs.RecordWriting as writing
 
-past : (fault : ℕ) (x : Writing) → writing_number (guard fault refused_by x) ≡ 0 → (fault ≡ 0) × (writing_number x ≡ 0)
+past : (fault : ℕ) (x : Writing) → refused_number (guard fault refused_by x) ≡ 0 → (fault ≡ 0) × (refused_number x ≡ 0)
 past fault x e = at (eqb fault 0) refl e
   where
-    at : (t : Bool) → eqb fault 0 ≡ t → writing_number (cond t x (refused_by fault)) ≡ 0 → (fault ≡ 0) × (writing_number x ≡ 0)
+    at : (t : Bool) → eqb fault 0 ≡ t → refused_number (cond t x (refused_by fault)) ≡ 0 → (fault ≡ 0) × (refused_number x ≡ 0)
     at true q p = (eqb-true fault 0 q, p)
     at false q p = absurd (eqb-false fault 0 q p)
 
@@ -30,7 +29,7 @@ pub record Accepts (s : ℕ) (f : Formula) : Type 0 where
   pub counts : count_fault (row_by f) (plain f).shape.p (plain f).shape.q ≡ 0
   pub values : value_fault s (row_by f) (plain f).shape (plain f).lo (plain f).hi (words_in (plain f)) ≡ 0
 
-pub accepts : (s : ℕ) (f : Formula) (room : ℕ) → writing_number (record_writing s f room) ≡ 0 → Accepts s f
+pub accepts : (s : ℕ) (f : Formula) (room : ℕ) → refused_number (record_writing s f room) ≡ 0 → Accepts s f
 unfolding record_writing plain_writing
 accepts s f room e =
     let r = row_by f in

@@ -8,11 +8,12 @@ use Rattle.faults.proofs.Chain.{halts, goes}
 use Rattle.faults.proofs.ScaleLaws.{no_scale_fault}
 use Rattle.records.specs.Records.{only_formula}
 use Rattle.records.proofs.Soundness.{not_blank, fourteen}
-use Rattle.record_writer.specs.Answers.{writing_number, refused_by}
+use Rattle.record_writer.specs.Answers.{refused_by}
 use Rattle.record_writer.specs.RecordWriter.{plain_writing, record_writing, OnlyBlank}
 use Rattle.record_writer.proofs.Accepted.{accepts}
+use Rattle.refusal.specs.Guard.{refused_number}
 
-pub written_not_blank : (s : ℕ) (f : Formula) (room : ℕ) → writing_number (record_writing s f room) ≡ 0 → blank_of (plain f).shape (words_in (plain f)) ≡ false
+pub written_not_blank : (s : ℕ) (f : Formula) (room : ℕ) → refused_number (record_writing s f room) ≡ 0 → blank_of (plain f).shape (words_in (plain f)) ≡ false
 written_not_blank s f room e = not_blank s (row_by f) (plain f).shape (plain f).lo (plain f).hi (words_in (plain f)) (accepts s f room e).values
 
 pub blank_fourteen : (s : ℕ) (f : Formula) (room : ℕ) → OnlyBlank s f → record_writing s f room ≡ refused_by 14

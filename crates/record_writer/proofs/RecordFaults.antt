@@ -7,7 +7,7 @@ use Rattle.layout.specs.Fields.{row_for, formula_number, words_in}
 use Rattle.putting.specs.Bytes.{record_bytes}
 use Rattle.putting.proofs.RecordLaws.{length_record}
 use Rattle.putting.proofs.RecordBack.{Tidy, shape_again, lo_again, hi_again, words_again, size_again, row_back}
-use Rattle.faults.specs.Guard.{or_else}
+use Rattle.refusal.specs.Guard.{or_else}
 use Rattle.faults.specs.Faults.{count_fault, size_fault, length_fault, order_fault}
 use Rattle.faults.proofs.Chain.{pass}
 use Rattle.records.specs.Records.{value_fault, inner_fault, formula_fault, only_formula}

@@ -13,18 +13,28 @@ use Rattle.putting.specs.Bytes.{Ready}
 use Rattle.putting.proofs.RecordLaws.{length_record}
 use Rattle.putting.proofs.RecordBack.{Tidy}
 use Rattle.putting.proofs.HandedLaws as handed
-use Rattle.faults.specs.Guard.{guard}
+use Rattle.refusal.specs.Guard.{number_of, refusal, guard, refused_place}
+use Rattle.refusal.specs.declared.Fault.{Fault}
 use Rattle.faults.specs.Faults.{count_fault, scale_fault}
-use Rattle.faults.proofs.Chain.{halts, goes}
+use Rattle.faults.proofs.Chain.{halts, goes, err_stops}
 use Rattle.faults.proofs.Lengths.{counted}
 use Rattle.faults.proofs.FaultSets.{count_set}
 use Rattle.faults.specs.Refusals.{OneOf}
 use Rattle.records.specs.Records.{value_fault, only_formula}
-use Rattle.record_writer.specs.Answers.{writing_place, refused_by}
+use Rattle.record_writer.specs.Answers.{refused_by, Writing}
 use Rattle.record_writer.specs.RecordWriter.{room_writing, plain_writing, record_writing, judged_writing, bytes_of, counts_fault, put_size}
-use Rattle.record_writer.specs.declared.answers.Writing.{Writing}
-use Rattle.record_writer.specs.declared.answers.Writing.TheVariants.{Written}
-use Rattle.record_writer.proofs.RecordFaults.{short_record, check_same}
+use Rattle.record_writer.proofs.RecordFaults.{check_same}
+use Rattle.std.specs.Prelude.{Ok, Err, Some, None}
+
+-- ---- a check's answer in front of a writer's: it stops at a fault, by its number, and goes past none
+pub fault_some : (f : Fault) → number_of f ≡ 0 → ⊥
+fault_some f z = let o : number_of f ≡ 1 = err_stops f 1 z in omega (arith, o, z)
+
+pub refuses : (f : Fault) {n : ℕ} (x : Writing) → number_of f ≡ n → Err (refusal 0 (number_of f)) ≡ guard n refused_by x
+refuses f x e = halts refused_by x e (fault_some f) refl
+
+pub passes : {n : ℕ} {x y : Writing} → 0 ≡ n → x ≡ y → x ≡ guard n refused_by y
+passes e = goes refused_by e refl
 
 -- ---- a record's bytes at the front of an array are its first ones
 pub front_taken : (l a : List ℕ) (n : ℕ) → n ≡ length a → length a ≤ length l → take n (sets l 0 a) ≡ a
@@ -47,29 +57,28 @@ module _ (f : Formula) (c : (row_by f).class ≡ FormulaRecord) (n : counts_faul
       ap₂ (λ (fault size : ℕ). guard fault refused_by (room_writing size room)) (check_same (row_by f) (plain f) d n s) (length_record (row_by f) (plain f) d.ready)
       ∙ sym (ap (λ (fault : ℕ). guard fault refused_by (guard (value_fault s (row_by f) (plain f).shape f.lo f.hi (words_in (plain f))) refused_by (room_writing (length_by (row_by f) (plain f).shape.p (plain f).shape.q) room))) n)
 
--- ---- the length of what was put together tells the counts' fault: a record has 16 bytes or more
-module _ (f : Formula) (c : (row_by f).class ≡ FormulaRecord) (h : Handed f) where
-  counts_two : (counts_fault f ≡ 0) ⊎ (counts_fault f ≡ 2)
-  counts_two = at (count_set (2 ∷ []) (inr (inl refl)) (row_by f) (plain f).shape.p (plain f).shape.q)
-    where
-      at : {n : ℕ} → OneOf (0 ∷ 2 ∷ []) n → (n ≡ 0) ⊎ (n ≡ 2)
-      at (inl e) = inl e
-      at (inr (inl e)) = inr e
-      at (inr (inr e)) = absurd e
+-- ---- whether anything was put together tells the counts' fault
+counts_two : (f : Formula) → (counts_fault f ≡ 0) ⊎ (counts_fault f ≡ 2)
+counts_two f = at (count_set (2 ∷ []) (inr (inl refl)) (row_by f) (plain f).shape.p (plain f).shape.q)
+  where
+    at : {n : ℕ} → OneOf (0 ∷ 2 ∷ []) n → (n ≡ 0) ⊎ (n ≡ 2)
+    at (inl e) = inl e
+    at (inr (inl e)) = inr e
+    at (inr (inr e)) = absurd e
 
-  pub put_none : put_size f ≡ 0 → counts_fault f ≡ 2
-  put_none z = at counts_two
-    where
-      at : (counts_fault f ≡ 0) ⊎ (counts_fault f ≡ 2) → counts_fault f ≡ 2
-      at (inl e) = absurd (omega (arith, (short_record (row_by f) (plain f) (tidy f c e h)).0, rw (eq-eqb _ _ e) at z))
-      at (inr e) = e
+pub put_none : (f : Formula) → put_size f ≡ None → counts_fault f ≡ 2
+put_none f z = at (counts_two f)
+  where
+    at : (counts_fault f ≡ 0) ⊎ (counts_fault f ≡ 2) → counts_fault f ≡ 2
+    at (inl e) = absurd (cc (rw (eq-eqb _ _ e) at z))
+    at (inr e) = e
 
-  pub put_some : (put_size f ≡ 0 → ⊥) → counts_fault f ≡ 0
-  put_some n = at counts_two
-    where
-      at : (counts_fault f ≡ 0) ⊎ (counts_fault f ≡ 2) → counts_fault f ≡ 0
-      at (inl e) = e
-      at (inr e) = absurd (n (rw e refl))
+pub put_some : (f : Formula) (n : ℕ) → put_size f ≡ Some n → (counts_fault f ≡ 0) × (n ≡ length (bytes_of f))
+put_some f n z = at (counts_two f)
+  where
+    at : (counts_fault f ≡ 0) ⊎ (counts_fault f ≡ 2) → (counts_fault f ≡ 0) × (n ≡ length (bytes_of f))
+    at (inl e) = let z' : Some (length (bytes_of f)) ≡ Some n = rw (eq-eqb _ _ e) at z in (e, cc)
+    at (inr e) = let z' : None ≡ Some n = rw e at z in absurd (cc)
 
 -- ---- by the code of the formula's kind: a formula's, or none that a formula has
 module _ (s : ℕ) (f : Formula) (room n : ℕ) (e : n ≡ code_for f.shape.kind) where
@@ -82,29 +91,29 @@ module _ (s : ℕ) (f : Formula) (room n : ℕ) (e : n ≡ code_for f.shape.kind
   at_no_code z g = halts refused_by _ (sym z ∙ ap (λ (k : ℕ). only_formula (row_of k).class) e) (λ q. omega arith) g
 
 -- ---- all at place 0
-at_zero : (fault : ℕ) (x : Writing) → writing_place x ≡ 0 → writing_place (guard fault refused_by x) ≡ 0
+at_zero : (fault : ℕ) (x : Writing) → refused_place x ≡ 0 → refused_place (guard fault refused_by x) ≡ 0
 at_zero fault x e = by (eqb fault 0)
   where
-    by : (t : Bool) → writing_place (cond t x (refused_by fault)) ≡ 0
+    by : (t : Bool) → refused_place (cond t x (refused_by fault)) ≡ 0
     by true = e
     by false = refl
 
-room_place : (n room : ℕ) → writing_place (room_writing n room) ≡ 0
+room_place : (n room : ℕ) → refused_place (room_writing n room) ≡ 0
 unfolding room_writing
 room_place n room = by (ltb room n)
   where
-    by : (t : Bool) → writing_place (cond t (refused_by 12) (Written n)) ≡ 0
+    by : (t : Bool) → refused_place (cond t (refused_by 12) (Ok n)) ≡ 0
     by true = refl
     by false = refl
 
-plain_place : (s : ℕ) (r : Row) (f : Formula) (room : ℕ) → writing_place (plain_writing s r f room) ≡ 0
+plain_place : (s : ℕ) (r : Row) (f : Formula) (room : ℕ) → refused_place (plain_writing s r f room) ≡ 0
 unfolding plain_writing
 plain_place s r f room =
     let x = room_writing (length_by r f.shape.p f.shape.q) room in
     let v = value_fault s r f.shape f.lo f.hi (words_in f) in
     at_zero (count_fault r f.shape.p f.shape.q) (guard v refused_by x) (at_zero v x (room_place _ room))
 
-pub record_place : (s : ℕ) (f : Formula) (room : ℕ) → writing_place (record_writing s f room) ≡ 0
+pub record_place : (s : ℕ) (f : Formula) (room : ℕ) → refused_place (record_writing s f room) ≡ 0
 unfolding record_writing
 record_place s f room =
     let x = plain_writing s (row_by f) (plain f) room in

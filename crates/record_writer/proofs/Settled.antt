@@ -2,14 +2,14 @@
 -- the buffer, that satisfy its contract are equal.
 use Rattle.whole.proofs.Basics.{◌∙◌, sym, ap, List, ℕ}
 use Rattle.whole.proofs.Settled.{AsksNothing, SettledBy, Settled}
-use Rattle.record_writer.specs.Answers.{buffer_after}
+use Rattle.record_writer.specs.Answers.{buffer_after, Writing}
 use Rattle.record_writer.specs.RecordWriter.{bytes_of}
-use Rattle.record_writer.specs.declared.answers.Writing.{Writing}
-use Rattle.record_writer.proofs.answers.refused_by.Kinds as refused-kinds
-use Rattle.record_writer.proofs.answers.refused_by.Reads as refused-reads
+use Rattle.refusal.proofs.RefusalFromFault.from.Kinds as refused-kinds
+use Rattle.refusal.proofs.RefusalFromFault.from.Reads as refused-reads
 use Rattle.record_writer.proofs.write_record.Kinds as record-kinds
 use Rattle.record_writer.proofs.write_record.Reads as record-reads
 
+-- its refusals are made of faults by the crate `refusal`
 pub refused_by_asks_nothing : AsksNothing refused-kinds.ps refused-reads.Asked
 refused_by_asks_nothing κs a = tt
 

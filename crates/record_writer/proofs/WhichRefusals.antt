@@ -7,25 +7,24 @@ use Rattle.table.specs.declared.Row.{Row}
 use Rattle.table.specs.Table.{length_by}
 use Rattle.layout.specs.Fields.{words_in}
 use Rattle.putting.specs.Plain.{row_by, plain}
-use Rattle.faults.specs.Guard.{guard}
+use Rattle.refusal.specs.Guard.{guard, refused_number}
 use Rattle.faults.specs.Faults.{count_fault, scale_fault}
 use Rattle.records.specs.Records.{value_fault, only_formula}
 use Rattle.faults.specs.Refusals.{OneOf}
 use Rattle.faults.proofs.FaultSets.{among, one_of, not_zero, Fault, count_set, scale-set}
 use Rattle.records.proofs.ValueSets.{value_set}
-use Rattle.record_writer.specs.Answers.{writing_number, refused_by}
+use Rattle.record_writer.specs.Answers.{refused_by, Writing}
 use Rattle.record_writer.specs.RecordWriter.{room_writing, plain_writing, record_writing, record_writer_refusals}
-use Rattle.record_writer.specs.declared.answers.Writing.{Writing}
-use Rattle.record_writer.specs.declared.answers.Writing.TheVariants.{Written}
+use Rattle.std.specs.Prelude.{Ok}
 
 -- it wrote, or refused by one of a set
 abbrev pub WrittenOr : List ℕ → Writing → Type 0
-WrittenOr l w = ((n : ℕ) × (w ≡ Written n)) ⊎ OneOf l (writing_number w)
+WrittenOr l w = ((n : ℕ) × (w ≡ Ok n)) ⊎ OneOf l (refused_number w)
 
 -- of a set without 0: there is no refusal exactly when it wrote
-pub wrote : (l : List ℕ) (w : Writing) → T (not (among l 0)) → WrittenOr l w → writing_number w ≡ 0 → (n : ℕ) × (w ≡ Written n)
+pub wrote : (l : List ℕ) (w : Writing) → T (not (among l 0)) → WrittenOr l w → refused_number w ≡ 0 → (n : ℕ) × (w ≡ Ok n)
 wrote l w t (inl h) z = h
-wrote l w t (inr h) z = absurd (not_zero l (writing_number w) t h z)
+wrote l w t (inr h) z = absurd (not_zero l (refused_number w) t h z)
 
 -- a check in front of another keeps to the set
 pub guarded : (l : List ℕ) (fault : ℕ) (w : Writing) → Fault l fault → WrittenOr l w → WrittenOr l (guard fault refused_by w)
@@ -37,7 +36,7 @@ guarded l fault w h k = at (eqb fault 0) refl h
     at false e (inr h) = inr h
 
 -- room, or 12
-pub in_room : (l : List ℕ) → OneOf l 12 → (t : Bool) (n : ℕ) → WrittenOr l (cond t (refused_by 12) (Written n))
+pub in_room : (l : List ℕ) → OneOf l 12 → (t : Bool) (n : ℕ) → WrittenOr l (cond t (refused_by 12) (Ok n))
 in_room l h true n = inr h
 in_room l h false n = inl (n, refl)
 
@@ -59,11 +58,11 @@ of_formula s r f room =
     (guarded record_writer_refusals (value_fault s r h f.lo f.hi (words_in f)) _ (value_set record_writer_refusals (is 6 tt) (is 14 tt) (is 7 tt) (is 8 tt) s r h f.lo f.hi (words_in f))
     (in_room record_writer_refusals (one_of record_writer_refusals 12 tt) (ltb room n) n))
 
-pub record_refusals_lem : (s : ℕ) (f : Formula) (room : ℕ) → ((n : ℕ) × (record_writing s f room ≡ Written n)) ⊎ OneOf record_writer_refusals (writing_number (record_writing s f room))
+pub record_refusals_lem : (s : ℕ) (f : Formula) (room : ℕ) → ((n : ℕ) × (record_writing s f room ≡ Ok n)) ⊎ OneOf record_writer_refusals (refused_number (record_writing s f room))
 unfolding record_writing
 record_refusals_lem s f room =
     guarded record_writer_refusals (only_formula (row_by f).class) _ (kind (row_by f).class)
     (guarded record_writer_refusals (scale_fault s) _ (scale-set record_writer_refusals (is 6 tt) s) (of_formula s (row_by f) (plain f) room))
 
-pub record_wrote : (s : ℕ) (f : Formula) (room : ℕ) → writing_number (record_writing s f room) ≡ 0 → (n : ℕ) × (record_writing s f room ≡ Written n)
+pub record_wrote : (s : ℕ) (f : Formula) (room : ℕ) → refused_number (record_writing s f room) ≡ 0 → (n : ℕ) × (record_writing s f room ≡ Ok n)
 record_wrote s f room z = wrote record_writer_refusals (record_writing s f room) tt (record_refusals_lem s f room) z

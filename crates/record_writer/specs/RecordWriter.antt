@@ -1,5 +1,5 @@
 -- The record writer at s binary places: what it answers for a formula and a buffer of so many bytes, and what it writes.
-use Rattle.std.specs.Prelude.{ℕ, ◌≡◌, refl, List, [], ◌∷◌, true, cond, eqb, ltb, length, replicate, pos}
+use Rattle.std.specs.Prelude.{ℕ, ◌≡◌, refl, List, [], ◌∷◌, true, cond, eqb, ltb, length, replicate, pos, Ok, Option, Some, None}
 use Rattle.std.proofs.Common.{arith}
 use Rattle.std.proofs.lemmas.List.Edits.{sets}
 use Rattle.word.specs.Rounded.{rounded_up}
@@ -16,16 +16,14 @@ use Rattle.table.specs.Codes.{code_for}
 use Rattle.layout.specs.Fields.{shape, formula, padded, row_for, words_in}
 use Rattle.putting.specs.Plain.{kept, plain_shape, plain_by, row_by, plain}
 use Rattle.putting.specs.Bytes.{front_bytes, head_bytes, field_bytes, fields_bytes, word_bytes, record_bytes}
-use Rattle.faults.specs.Guard.{guard, or_else}
+use Rattle.refusal.specs.Guard.{guard, or_else}
 use Rattle.faults.specs.Faults.{outside, count_fault, interval_fault, words_fault, own_fault, scale_fault}
 use Rattle.records.specs.Records.{value_fault, only_formula, formula_fault}
-use Rattle.record_writer.specs.Answers.{refused_by}
-use Rattle.record_writer.specs.declared.answers.Writing.{Writing}
-use Rattle.record_writer.specs.declared.answers.Writing.TheVariants.{Written}
+use Rattle.record_writer.specs.Answers.{refused_by, Writing}
 
 -- 12 if the buffer is shorter than the record
 unfoldable pub room_writing : ℕ → ℕ → Writing
-room_writing n room = cond (ltb room n) (refused_by 12) (Written n)
+room_writing n room = cond (ltb room n) (refused_by 12) (Ok n)
 
 -- 2 for a count outside its range; 6; 14; 7 or 8
 unfoldable pub plain_writing : ℕ → Row → Formula → ℕ → Writing
@@ -52,9 +50,9 @@ bytes_of f = record_bytes (row_by f) (plain f)
 abbrev pub counts_fault : Formula → ℕ
 counts_fault f = count_fault (row_by f) (plain f).shape.p (plain f).shape.q
 
--- what is put together at the front of an array: the record, and its length; or nothing, and 0, where there is that fault
-abbrev pub put_size : Formula → ℕ
-put_size f = cond (eqb (counts_fault f) 0) (length (bytes_of f)) 0
+-- what is put together at the front of an array: the record, and its length; or nothing, and none, where there is that fault
+abbrev pub put_size : Formula → Option ℕ
+put_size f = cond (eqb (counts_fault f) 0) (Some (length (bytes_of f))) None
 
 abbrev pub put_into : Formula → List ℕ → List ℕ
 put_into f l = cond (eqb (counts_fault f) 0) (sets l 0 (bytes_of f)) l
@@ -81,15 +79,15 @@ unfolding rows first_row row_of code_for bytes2 bytes4 pieces_by padded kept pla
 root_bytes = refl
 
 -- 12 at one byte short
-root_room : (record_writing 24 example_root 16 ≡ Written 16) × (record_writing 24 example_root 15 ≡ refused_by 12)
+root_room : (record_writing 24 example_root 16 ≡ Ok 16) × (record_writing 24 example_root 15 ≡ refused_by 12)
 unfolding rows first_row row_of code_for pieces_by padded kept plain_shape plain_by outside count_fault interval_fault words_fault own_fault value_fault scale_fault room_writing plain_writing record_writing
 root_room = (refl, refl)
 
 -- 16 to 28 binary places, and 6 comes before 12
 root_places :
     (record_writing 15 example_root 0 ≡ refused_by 6)
-    × (record_writing 16 example_root 16 ≡ Written 16)
-    × (record_writing 28 example_root 16 ≡ Written 16)
+    × (record_writing 16 example_root 16 ≡ Ok 16)
+    × (record_writing 28 example_root 16 ≡ Ok 16)
     × (record_writing 29 example_root 0 ≡ refused_by 6)
 unfolding rows first_row row_of code_for pieces_by padded kept plain_shape plain_by outside count_fault interval_fault words_fault own_fault value_fault scale_fault room_writing plain_writing record_writing
 root_places = (refl, refl, refl, refl)
@@ -100,10 +98,10 @@ steps n = formula 1 (shape Polynomial n 0 0) (pos 0) (pos 0) (replicate 32 (pos 
 
 -- 20 bytes are put together for one, 80 for 16, none for 0 or 17; what stands behind a record stays
 sizes :
-    (put_size (steps 0) ≡ 0)
-    × (put_size (steps 1) ≡ 20)
-    × (put_size (steps 16) ≡ 80)
-    × (put_size (steps 17) ≡ 0)
+    (put_size (steps 0) ≡ None)
+    × (put_size (steps 1) ≡ Some 20)
+    × (put_size (steps 16) ≡ Some 80)
+    × (put_size (steps 17) ≡ None)
     × (put_into (steps 17) (7 ∷ []) ≡ 7 ∷ [])
     × (put_into example_root (replicate 17 9) ≡ 0x10 ∷ 0 ∷ 0 ∷ 0 ∷ 0x13 ∷ 0 ∷ 1 ∷ 0 ∷ 0 ∷ 0 ∷ 0 ∷ 0 ∷ 0 ∷ 0 ∷ 0 ∷ 2 ∷ 9 ∷ [])
 unfolding rows first_row row_of code_for bytes2 bytes4 pieces_by padded kept plain_shape plain_by outside count_fault front_bytes head_bytes field_bytes fields_bytes word_bytes record_bytes
@@ -112,8 +110,8 @@ sizes = (refl, refl, refl, refl, refl, refl)
 -- 1 to 16 coefficients
 counts :
     (record_writing 24 (steps 0) 120 ≡ refused_by 2)
-    × (record_writing 24 (steps 1) 20 ≡ Written 20)
-    × (record_writing 24 (steps 16) 80 ≡ Written 80)
+    × (record_writing 24 (steps 1) 20 ≡ Ok 20)
+    × (record_writing 24 (steps 16) 80 ≡ Ok 80)
     × (record_writing 24 (steps 17) 120 ≡ refused_by 2)
 unfolding rounded_up bound_of rows first_row row_of code_for pieces_by padded kept plain_shape plain_by outside count_fault interval_fault words_fault all_zero own_fault value_fault scale_fault room_writing plain_writing record_writing
 counts = (refl, refl, refl, refl)
@@ -137,7 +135,7 @@ room_last :
     × (record_writing 24 (refused_first 2 16777216 0) 0 ≡ refused_by 6)
     × (record_writing 24 (refused_first 2 0 16777216) 0 ≡ refused_by 7)
     × (record_writing 24 (refused_first 1 0 16777216) 19 ≡ refused_by 12)
-    × (record_writing 24 (refused_first 1 0 16777216) 20 ≡ Written 20)
+    × (record_writing 24 (refused_first 1 0 16777216) 20 ≡ Ok 20)
 unfolding rounded_up bound_of rows first_row row_of code_for pieces_by padded kept plain_shape plain_by outside count_fault interval_fault words_fault all_zero own_fault value_fault scale_fault room_writing plain_writing record_writing
 room_last = (refl, refl, refl, refl, refl)
 

@@ -2,9 +2,8 @@
 use Rattle.whole.proofs.Basics.{◌≡◌, refl, sym, subst, Bool, true, false, not, List, ℕ, ◌≤◌, arith, T, length, ℤ, pos, ◌≤ℤ◌, lt_z}
 use lib.Signed.{lt_z_no}
 use Rattle.stored.proofs.WordsLaws.{length-words}
-use Rattle.admission.specs.Admission.{admission_number}
-use Rattle.admission.specs.declared.Admission.{Admission}
-use Rattle.admission.specs.declared.Admission.TheVariants.{Admitted, RangeLeft, DivisorZero}
+use Rattle.admission.specs.Admission.{admission_number, Admission, granted}
+use Rattle.admission.specs.declared.NotAdmitted.TheVariants.{RangeLeft, DivisorZero}
 use Rattle.formula.specs.declared.Kind.{Kind}
 use Rattle.formula.specs.declared.Kind.TheVariants.{Polynomial, Rational, Fraction, Root, Odd, Even, NoFormula}
 use Rattle.formula.specs.declared.Shape.{Shape}
@@ -20,6 +19,7 @@ use Rattle.faults.proofs.Chain.{pass, passed, neither}
 use Rattle.faults.proofs.Lengths.{inside}
 use Rattle.faults.proofs.Values.{word, each_word}
 use Rattle.records.specs.Records.{value_fault, inner_fault}
+use Rattle.std.specs.Prelude.{Err, Ok}
 
 not_below : (a b : ℤ) → lt_z a b ≡ false → b ≤ℤ a
 not_below a b e = lt_z_no (subst (λ (t : Bool). T (not t)) (sym e) tt)
@@ -62,13 +62,13 @@ module _ (s : ℕ) (r : Row) (h : Shape) (lo hi : ℤ) (ws : List ℤ) (e : valu
   pub not_blank : blank_of h ws ≡ false
   not_blank = (passed (blank_of h ws) 14 0 (λ z. omega arith) behind_words.0).0
 
-  pub admitted : admission_of s h lo hi ws ≡ Admitted
+  pub admitted : admission_of s h lo hi ws ≡ granted
   admitted = none (admission_of s h lo hi ws) behind_words.1
     where
-      none : (a : Admission) → admission_number a ≡ 0 → a ≡ Admitted
-      none Admitted z = refl
-      none RangeLeft z = absurd (omega arith)
-      none DivisorZero z = absurd (omega arith)
+      none : (a : Admission) → admission_number a ≡ 0 → a ≡ granted
+      none (Ok _) z = refl
+      none (Err RangeLeft) z = absurd (omega arith)
+      none (Err DivisorZero) z = absurd (omega arith)
 
 -- a blank one of which nothing else is wrong has 14
 pub fourteen : (s : ℕ) (r : Row) (h : Shape) (lo hi : ℤ) (ws : List ℤ) → own_fault r h lo hi ≡ 0 → words_fault ws ≡ 0 → blank_of h ws ≡ true → value_fault s r h lo hi ws ≡ 14

@@ -1,21 +1,19 @@
 -- Refusals 2 to 8 and 14 of a whole formula record, in the paper's order; 0 where there is none. The binary places are s.
-use Rattle.std.specs.Prelude.{ℕ, ◌≡◌, refl, List, [], ◌∷◌, ◌++◌, ℤ, pos, negsuc}
+use Rattle.std.specs.Prelude.{ℕ, ◌≡◌, refl, List, [], ◌∷◌, ◌++◌, length, ℤ, pos, negsuc, Err, Ok}
 use Rattle.word.specs.Rounded.{rounded_up}
 use Rattle.stored.specs.Numbers.{number2, number4, bytes2, bytes4}
 use Rattle.stored.specs.Words.{words}
 use Rattle.polynomial.specs.Polynomial.{bound, bound_of}
-use Rattle.admission.specs.Admission.{admission_number}
-use Rattle.admission.specs.declared.Admission.{Admission}
-use Rattle.admission.specs.declared.Admission.TheVariants.{Admitted, RangeLeft, DivisorZero}
+use Rattle.admission.specs.Admission.{admission_number, Admission, range_left, divisor_zero}
 use Rattle.formula.specs.declared.Shape.{Shape}
-use Rattle.formula.specs.Formula.{admission_of}
+use Rattle.formula.specs.Formula.{Counted, word_count, admission_of}
 use Rattle.formula.specs.Blank.{all_zero}
 use Rattle.table.specs.declared.Class.{Class}
 use Rattle.table.specs.declared.Class.TheVariants.{StartRecord, FormulaRecord, EndRecord, Unknown}
 use Rattle.table.specs.declared.Row.{Row}
 use Rattle.table.specs.Table.{rows, first_row, row_of, pieces_by}
 use Rattle.layout.specs.Fields.{formula_number, lo_of, hi_of, first_count, field_of, shape_of, words_of}
-use Rattle.faults.specs.Guard.{or_else}
+use Rattle.refusal.specs.Guard.{or_else, number_of}
 use Rattle.faults.specs.Faults.{outside, count_fault, size_fault, length_fault, order_fault, words_fault, interval_fault, own_fault, blank_fault}
 
 -- ---- 7 or 8, as Admission meets them
@@ -35,9 +33,8 @@ inner_fault s r b = value_fault s r (shape_of r b) (lo_of b) (hi_of b) (words_of
 
 -- of a formula that is not blank, 6 of its words, then 7 or 8, by what admission has found: it stops at the first fault, and admits words alone
 abbrev pub judged_fault : List ℤ → Admission → ℕ
-judged_fault ws Admitted = 0
-judged_fault ws RangeLeft = or_else (words_fault ws) 7
-judged_fault ws DivisorZero = or_else (words_fault ws) 8
+judged_fault ws (Ok admitted) = 0
+judged_fault ws (Err refused) = or_else (words_fault ws) (admission_number (Err refused))
 
 -- ---- a formula record: exact length (2); 4; 5; 6; 14; 7 or 8
 unfoldable pub formula_fault : ℕ → Row → List ℕ → ℕ → ℕ → ℕ → ℕ
@@ -52,6 +49,10 @@ front_fault r b seen count next =
     or_else (length_fault r b)
     (or_else (order_fault seen count next (formula_number b))
     (own_fault r (shape_of r b) (lo_of b) (hi_of b)))
+
+-- as many words as the kind and the counts ask for, and counts in their ranges
+abbrev pub WordsOf : Shape → List (List ℕ) → Type 0
+WordsOf h ws = (length ws ≡ word_count h.kind h.p h.q) × Counted h.kind h.p h.q h.mode
 
 -- 3 for a record that is no formula
 abbrev pub only_formula : Class → ℕ
@@ -104,10 +105,10 @@ range_first = (refl, refl)
 
 -- where admission has stopped at a number that is no word, 6
 stopped_at_no_word :
-    (judged_fault (pos 1 ∷ []) RangeLeft ≡ 7)
-    × (judged_fault (pos 1 ∷ []) DivisorZero ≡ 8)
-    × (judged_fault (negsuc 2147483647 ∷ []) RangeLeft ≡ 6)
-    × (judged_fault (negsuc 2147483647 ∷ []) DivisorZero ≡ 6)
+    (judged_fault (pos 1 ∷ []) range_left ≡ 7)
+    × (judged_fault (pos 1 ∷ []) divisor_zero ≡ 8)
+    × (judged_fault (negsuc 2147483647 ∷ []) range_left ≡ 6)
+    × (judged_fault (negsuc 2147483647 ∷ []) divisor_zero ≡ 6)
 unfolding words_fault
 stopped_at_no_word = (refl, refl, refl, refl)
 

@@ -5,26 +5,26 @@ use Rattle.whole.proofs.Basics.{◌≡◌, ap, subst, List, [], ◌∷◌, ◌++
 use Rattle.word.specs.Words.{Scale}
 use Rattle.table.specs.declared.Class.TheVariants.{StartRecord}
 use Rattle.layout.specs.Fields.{row_for, count_of, formula_number, shape_of, lo_of, hi_of, words_of}
-use Rattle.faults.specs.Guard.{refusal}
+use Rattle.refusal.specs.Guard.{refusal}
 use Rattle.faults.specs.Faults.{words_fault, own_fault}
-use Rattle.faults.specs.declared.Refusal.{Refusal}
+use Rattle.refusal.specs.declared.Refusal.{Refusal}
 use Rattle.records.specs.Sheets.{RecordOf, EachFormula, Rising, in_line, SheetOf}
 use Rattle.walking.specs.BlankRecords.{BlankBytes, BlankBehind, BlankOrBefore, BlankNext}
 use Rattle.walking.proofs.BlankMet.{blank_walked, fourteen_walked}
-use Rattle.sheet.specs.Reader.{count_answer, no_number, formula_count}
-use Rattle.sheet.specs.declared.answers.FormulaCount.TheVariants.{Refused}
+use Rattle.sheet.specs.Reader.{count_answer, formula_count}
 use Rattle.sheet.proofs.Places.{around, each_before, rising_before}
+use Rattle.std.specs.Prelude.{Err, None}
 
 module _ (s : ℕ) (start rest : List ℕ) (o : RecordOf StartRecord start) where
-  pub blank_refused : (h : BlankBehind rest) → (r : Refusal) × (formula_count s (start ++ rest) ≡ Refused r) × BlankOrBefore 0 (start ∷ h.records) r
+  pub blank_refused : (h : BlankBehind rest) → (r : Refusal) × (formula_count s (start ++ rest) ≡ Err r) × BlankOrBefore 0 (start ∷ h.records) r
   unfolding formula_count
   blank_refused h =
-      let m = blank_walked s start rest no_number o h in
+      let m = blank_walked s start rest None o h in
       (m.0, ap count_answer m.1, m.2)
 
-  pub fourteen : Scale s → 1 ≤ count_of start → count_of start ≤ 64 → (h : BlankNext s (count_of start) rest) → formula_count s (start ++ rest) ≡ Refused (refusal (length start + length (in_line h.formulas)) 14)
+  pub fourteen : Scale s → 1 ≤ count_of start → count_of start ≤ 64 → (h : BlankNext s (count_of start) rest) → formula_count s (start ++ rest) ≡ Err (refusal (length start + length (in_line h.formulas)) 14)
   unfolding formula_count
-  fourteen k l m h = ap count_answer (fourteen_walked s start rest no_number k o l m h)
+  fourteen k l m h = ap count_answer (fourteen_walked s start rest None k o l m h)
 
 -- ---- in a sheet that is accepted but for a blank record in place of one of its own, which has that one's number
 module _ (s c : ℕ) (sheet : List ℕ) (h : SheetOf s c sheet) (xs : List (List ℕ)) (b : List ℕ) (ys : List (List ℕ)) (e : h.formulas ≡ xs ++ (b ∷ ys)) (blank : List ℕ) (is : BlankBytes blank) (number : formula_number blank ≡ formula_number b)
@@ -46,5 +46,5 @@ module _ (s c : ℕ) (sheet : List ℕ) (h : SheetOf s c sheet) (xs : List (List
         words = words;
       }
 
-  pub otherwise_accepted : formula_count s (h.start ++ (in_line (xs ++ (blank ∷ ys)) ++ h.finish)) ≡ Refused (refusal (length h.start + length (in_line xs)) 14)
+  pub otherwise_accepted : formula_count s (h.start ++ (in_line (xs ++ (blank ∷ ys)) ++ h.finish)) ≡ Err (refusal (length h.start + length (in_line xs)) 14)
   otherwise_accepted = fourteen s h.start _ h.opens.0 h.scale (omega (arith, h.opens.1, h.opens.2)) (omega (arith, h.opens.1, h.opens.3)) next

@@ -8,23 +8,24 @@ use Rattle.table.specs.declared.Class.TheVariants.{StartRecord, FormulaRecord, E
 use Rattle.layout.specs.Fields.{formula_number}
 use Rattle.stored.specs.Numbers.{number4}
 use Rattle.stored.proofs.NumberLaws.{number4_more}
-use Rattle.faults.specs.Guard.{refusal}
+use Rattle.refusal.specs.Guard.{refusal, refused_number, refused_place}
 use Rattle.faults.specs.Faults.{frame_fault}
 use Rattle.records.specs.Sheets.{RecordOf, EachFormula, Rising, in_line, SheetOf}
 use Rattle.walking.specs.Refused.{RefusedAt}
 use Rattle.walking.specs.Walking.{walk, fault_at}
 use Rattle.walking.specs.declared.Walk.{Walk}
 use Rattle.walking.proofs.Records.{there}
-use Rattle.sheet.specs.Reader.{count_number, count_place, count_value, formula_count, Accepted}
+use Rattle.sheet.specs.Reader.{count_value, formula_count, Accepted}
 use Rattle.sheet.proofs.AcceptedShape.{accepted_shape}
 use Rattle.sheet.proofs.RefusedThere.{there_refused}
+use Rattle.std.specs.Prelude.{None}
 
 -- an accepted sheet with anything behind it is refused by 9, at the first byte too many
-pub too_long_lem : (s : ℕ) (bytes after : List ℕ) → Accepted s bytes → 0 < length after → (count_number (formula_count s (bytes ++ after)) ≡ 9) × (count_place (formula_count s (bytes ++ after)) ≡ length bytes)
+pub too_long_lem : (s : ℕ) (bytes after : List ℕ) → Accepted s bytes → 0 < length after → (refused_number (formula_count s (bytes ++ after)) ≡ 9) × (refused_place (formula_count s (bytes ++ after)) ≡ length bytes)
 too_long_lem s bytes after a h =
     let e = there_refused s (bytes ++ after) (refusal (length bytes) 9)
     (inr (inr (record { count = _; sheet = bytes; after = after; whole = refl; shape = accepted_shape s bytes a; more = h; nine = refl }))) in
-    (ap count_number e, ap count_place e)
+    (ap refused_number e, ap refused_place e)
 
 -- ---- the record that a cut behind k bytes falls into
 record CutInto (s next k : ℕ) (fs : List (List ℕ)) (line : List ℕ) : Type 0 where
@@ -121,7 +122,7 @@ module _ (s c : ℕ) (bytes : List ℕ) (h : SheetOf s c bytes) (k : ℕ) where
   in_the_start l =
       let rest = in_line h.formulas ++ h.finish in
       let f = cut_frame [] h.start rest StartRecord h.opens.0 k (omega arith) (omega (arith, l)) in
-      inl (record { place = refl; fault = broken_off s (take k bytes) (walk 0 0 0 0 0 0) (rw h.whole f); some = λ z. omega arith })
+      inl (record { place = refl; fault = broken_off s (take k bytes) (walk 0 0 0 0 None None) (rw h.whole f); some = λ z. omega arith })
 
   module _ (l : length h.start ≤ k) (t : CutInto s 0 (k - length h.start) h.formulas (in_line h.formulas ++ h.finish)) where
     abbrev before : List ℕ
@@ -160,14 +161,14 @@ module _ (s c : ℕ) (bytes : List ℕ) (h : SheetOf s c bytes) (k : ℕ) where
           some = λ z. omega arith;
         }))
 
-pub cut_short : (s : ℕ) (bytes : List ℕ) (k : ℕ) → Accepted s bytes → k < length bytes → count_number (formula_count s (take k bytes)) ≡ 1
+pub cut_short : (s : ℕ) (bytes : List ℕ) (k : ℕ) → Accepted s bytes → k < length bytes → refused_number (formula_count s (take k bytes)) ≡ 1
 cut_short s bytes k a m =
     let h = accepted_shape s bytes a in
     let long : length bytes ≡ length h.start + (length (in_line h.formulas) + length h.finish) = ap length h.whole ∙ omega (arith, length-append h.start (in_line h.formulas ++ h.finish), length-append (in_line h.formulas) h.finish) in
     at h long (before_or_not k (length h.start))
   where
-    at : (h : SheetOf s (count_value (formula_count s bytes)) bytes) → length bytes ≡ length h.start + (length (in_line h.formulas) + length h.finish) → (k < length h.start) ⊎ (length h.start ≤ k) → count_number (formula_count s (take k bytes)) ≡ 1
-    at h long (inl l) = ap count_number (there_refused s (take k bytes) (refusal 0 1) (in_the_start s _ bytes h k l))
+    at : (h : SheetOf s (count_value (formula_count s bytes)) bytes) → length bytes ≡ length h.start + (length (in_line h.formulas) + length h.finish) → (k < length h.start) ⊎ (length h.start ≤ k) → refused_number (formula_count s (take k bytes)) ≡ 1
+    at h long (inl l) = ap refused_number (there_refused s (take k bytes) (refusal 0 1) (in_the_start s _ bytes h k l))
     at h long (inr l) =
         let t = cut_into s h.formulas h.finish 0 (k - length h.start) h.each h.rising h.closes.0 (omega (arith, l, long, m)) in
-        ap count_number (there_refused s (take k bytes) _ (behind_the_start s _ bytes h k l t))
+        ap refused_number (there_refused s (take k bytes) _ (behind_the_start s _ bytes h k l t))

@@ -3,19 +3,16 @@
 use Rattle.whole.proofs.Basics.{◌≡◌, ◌∙◌, refl, ap, subst, ◌⊎◌, inl, inr, List, ℕ, arith, length}
 use Rattle.word.specs.Words.{Scale}
 use Rattle.layout.specs.Fields.{formula_number, formula_of}
-use Rattle.faults.specs.Guard.{refusal}
+use Rattle.refusal.specs.Guard.{refusal, refused_number, refused_place}
 use Rattle.records.specs.Sheets.{FormulaBytes, Has, SheetOf}
-use Rattle.walking.specs.declared.Walked.{Walked}
 use Rattle.walking.proofs.Formulas.{place_in}
-use Rattle.sheet.specs.Reader.{count_number, formula_count, found_number, found_place, reading, withheld, place_found, place_answer, formula_place, formula_in, read_at, formula_read, Accepted, HasFormula, Fit}
-use Rattle.sheet.specs.declared.answers.FormulaCount.{FormulaCount}
-use Rattle.sheet.specs.declared.answers.FormulaCount.TheVariants.{Count, Refused}
-use Rattle.sheet.specs.declared.answers.Found.TheVariants.{Given}
-use Rattle.sheet.specs.declared.answers.Reading.{Reading}
+use Rattle.sheet.specs.Reader.{formula_count, place_found, place_answer, formula_place, formula_in, read_at, formula_read, Accepted, HasFormula, Fit, FormulaCount, formula_given, Given}
 use Rattle.sheet.proofs.AcceptedShape.{accepted_shape, walk_of_lem}
 use Rattle.sheet.proofs.SameRefusal.{same_refusal}
-use Rattle.sheet.proofs.Places.{RecordAt, noted, has, stands, given}
+use Rattle.sheet.proofs.Places.{RecordAt, noted, has, stands}
 use Rattle.sheet.proofs.Words.{fit}
+use Rattle.walking.specs.Walking.{Walked}
+use Rattle.std.specs.Prelude.{Err, Ok, Option, Some, None}
 
 -- ---- what the reader answers for a number that a sheet has, and for one that it has not
 
@@ -24,42 +21,42 @@ pub record Gives (s : ℕ) (bytes : List ℕ) (n : ℕ) (fs : List (List ℕ)) :
   pub record_bytes_lem : List ℕ
   pub there : Has n fs
   pub number : formula_number record_bytes_lem ≡ n
-  pub answer : formula_read s bytes n ≡ reading Given (formula_in record_bytes_lem)
+  pub answer : formula_read s bytes n ≡ Ok (formula_in record_bytes_lem)
   pub fits : Fit s (formula_in record_bytes_lem)
 
 -- none of the records has it, and the answer is 11
 abbrev pub Lacks : ℕ → List ℕ → ℕ → List (List ℕ) → Type 0
-Lacks s bytes n fs = (Has n fs → ⊥) × (formula_read s bytes n ≡ withheld (refusal 0 11))
+Lacks s bytes n fs = (Has n fs → ⊥) × (formula_read s bytes n ≡ Err (refusal 0 11))
 
 module _ (s c : ℕ) (bytes : List ℕ) (h : SheetOf s c bytes) (n : ℕ) where
-  place : ℕ
-  place = place_in n (length h.start) 0 h.formulas
+  place : Option ℕ
+  place = place_in (Some n) (length h.start) None h.formulas
 
   answer_is : formula_read s bytes n ≡ read_at bytes (place_found place)
   unfolding formula_read formula_place place
-  answer_is = ap (λ (w : Walked). read_at bytes (place_answer w)) (walk_of_lem s c bytes h n)
+  answer_is = ap (λ (w : Walked). read_at bytes (place_answer w)) (walk_of_lem s c bytes h (Some n))
 
-  gives : RecordAt n (length h.start) place h.formulas → Gives s bytes n h.formulas
-  gives a =
+  gives : (j : ℕ) → place ≡ Some j → RecordAt n (length h.start) j h.formulas → Gives s bytes n h.formulas
+  gives j q a =
       let b = a.here in
-      let t = stands s c bytes h n place a in
+      let t = stands s c bytes h n j a in
       let e = t.1 in
       let f : FormulaBytes s b = subst (FormulaBytes s) e t.0.here in
       record {
         record_bytes_lem = b;
         there = has n _ _ h.formulas a;
         number = a.number;
-        answer = answer_is ∙ given bytes place (λ z. omega (arith, a.place, z, h.opens.0.least)) ∙ ap (λ (x : List ℕ). reading Given (formula_in x)) e;
+        answer = answer_is ∙ ap (λ (k : Option ℕ). read_at bytes (place_found k)) q ∙ ap (λ (x : List ℕ). Ok (formula_in x)) e;
         fits = fit s b f;
       }
 
   pub found_or_not : Gives s bytes n h.formulas ⊎ Lacks s bytes n h.formulas
   unfolding place
-  found_or_not = at (noted n (length h.start) 0 h.formulas)
+  found_or_not = at (noted n (length h.start) None h.formulas)
     where
-      at : ((place ≡ 0) × (Has n h.formulas → ⊥)) ⊎ RecordAt n (length h.start) place h.formulas → Gives s bytes n h.formulas ⊎ Lacks s bytes n h.formulas
-      at (inl x) = inr (x.1, answer_is ∙ ap (λ (k : ℕ). read_at bytes (place_found k)) x.0)
-      at (inr a) = inl (gives a)
+      at : ((place ≡ None) × (Has n h.formulas → ⊥)) ⊎ ((j : ℕ) × (place ≡ Some j) × RecordAt n (length h.start) j h.formulas) → Gives s bytes n h.formulas ⊎ Lacks s bytes n h.formulas
+      at (inl x) = inr (x.1, answer_is ∙ ap (λ (k : Option ℕ). read_at bytes (place_found k)) x.0)
+      at (inr (j, q, a)) = inl (gives j q a)
 
 -- ---- the promises
 
@@ -68,25 +65,25 @@ pub found_exactly : (s c : ℕ) (bytes : List ℕ) (h : SheetOf s c bytes) (n : 
 found_exactly s c bytes h n = at (found_or_not s c bytes h n)
   where
     at : Gives s bytes n h.formulas ⊎ Lacks s bytes n h.formulas → (Has n h.formulas → HasFormula s bytes n) × (HasFormula s bytes n → Has n h.formulas)
-    at (inl g) = ((λ x. ap (λ (r : Reading). found_number r.found) g.answer), λ x. g.there)
+    at (inl g) = ((λ x. ap refused_number g.answer), λ x. g.there)
     at (inr l) = ((λ x. absurd (l.0 x)), λ x. absurd (let z : ◌≡◌ {A = ℕ} 11 0 = rw l.1 at x in omega arith))
 
 -- else it is refused by 11, at place 0
-pub not_found : (s c : ℕ) (bytes : List ℕ) (h : SheetOf s c bytes) (n : ℕ) → (Has n h.formulas → ⊥) → (found_number (formula_read s bytes n).found ≡ 11) × (found_place (formula_read s bytes n).found ≡ 0)
+pub not_found : (s c : ℕ) (bytes : List ℕ) (h : SheetOf s c bytes) (n : ℕ) → (Has n h.formulas → ⊥) → (refused_number (formula_read s bytes n) ≡ 11) × (refused_place (formula_read s bytes n) ≡ 0)
 not_found s c bytes h n z = at (found_or_not s c bytes h n)
   where
-    at : Gives s bytes n h.formulas ⊎ Lacks s bytes n h.formulas → (found_number (formula_read s bytes n).found ≡ 11) × (found_place (formula_read s bytes n).found ≡ 0)
+    at : Gives s bytes n h.formulas ⊎ Lacks s bytes n h.formulas → (refused_number (formula_read s bytes n) ≡ 11) × (refused_place (formula_read s bytes n) ≡ 0)
     at (inl g) = absurd (z g.there)
-    at (inr l) = (ap (λ (r : Reading). found_number r.found) l.1, ap (λ (r : Reading). found_place r.found) l.1)
+    at (inr l) = (ap refused_number l.1, ap refused_place l.1)
 
 module _ (s : ℕ) (bytes : List ℕ) (n : ℕ) (e : HasFormula s bytes n) where
   -- a number is found in an accepted sheet only
   pub given_accepted : Accepted s bytes
   given_accepted = at (formula_count s bytes) refl
     where
-      at : (x : FormulaCount) → formula_count s bytes ≡ x → count_number x ≡ 0
-      at (Count c) q = refl
-      at (Refused r) q = rw (same_refusal s bytes n r q) at e
+      at : (x : FormulaCount) → formula_count s bytes ≡ x → refused_number x ≡ 0
+      at (Ok c) q = refl
+      at (Err r) q = rw (same_refusal s bytes n r q) at e
 
   -- so the scale is a board's
   pub given_scale : Scale s
@@ -97,7 +94,7 @@ module _ (s : ℕ) (bytes : List ℕ) (n : ℕ) (e : HasFormula s bytes n) where
   there fs (inr l) = absurd (let z : ◌≡◌ {A = ℕ} 11 0 = rw l.1 at e in omega arith)
 
   -- a formula that is given is sound, not blank and admitted, and has the number
-  pub given_fits : Fit s (formula_read s bytes n).formula × ((formula_read s bytes n).formula.number ≡ n)
+  pub given_fits : Fit s (formula_given (formula_read s bytes n)) × ((formula_given (formula_read s bytes n)).number ≡ n)
   unfolding formula_of
   given_fits =
       let h = accepted_shape s bytes given_accepted in
@@ -105,7 +102,7 @@ module _ (s : ℕ) (bytes : List ℕ) (n : ℕ) (e : HasFormula s bytes n) where
       rw g.answer (g.fits, g.number)
 
   -- no refusal has the number 0: where there is none, the formula is given
-  pub given_found : (formula_read s bytes n).found ≡ Given
+  pub given_found : Given (formula_read s bytes n)
   given_found =
       let h = accepted_shape s bytes given_accepted in
-      ap (λ (r : Reading). r.found) (there h.formulas (found_or_not s _ bytes h n)).answer
+      rw (there h.formulas (found_or_not s _ bytes h n)).answer refl

@@ -11,7 +11,7 @@ use Rattle.formula.proofs.BlankLaws.{some_not_zero}
 use Rattle.layout.specs.Fields.{row_for, shape_of, lo_of, hi_of, words_of, words_in}
 use Rattle.records.specs.Sheets.{EachFormula, SheetOf}
 use Rattle.records.proofs.Soundness.{not_blank}
-use Rattle.sheet.specs.Reader.{formula_read, HasFormula, NoneBlank}
+use Rattle.sheet.specs.Reader.{formula_read, HasFormula, NoneBlank, formula_given}
 use Rattle.sheet.proofs.FormulasGiven.{given_fits}
 
 -- ---- its records
@@ -25,7 +25,7 @@ no_blank_record s c bytes h = none_blank s h.formulas h.each
 -- ---- what the reader gives
 module _ (s : ℕ) (bytes : List ℕ) (n : ℕ) (e : HasFormula s bytes n) where
   abbrev f : Formula
-  f = (formula_read s bytes n).formula
+  f = (formula_given (formula_read s bytes n))
 
   pub no_blank : blank_of f.shape (words_in f) ≡ false
   no_blank = (given_fits s bytes n e).0.not_blank

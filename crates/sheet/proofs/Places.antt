@@ -1,26 +1,18 @@
--- The place that the walk notes is that of a record with the number asked for, or 0 where there is none.
-use Rattle.whole.proofs.Basics.{◌≡◌, ◌∙◌, refl, sym, ap, subst, Bool, true, false, cond, ◌⊎◌, inl, inr, List, [], ◌∷◌, ◌++◌, append_assoc, append-nil, ℕ, suc, zero, ◌+◌, ◌≤◌, arith, eqb, length, length-append, eqb-true, eqb-false, le-ltb}
+-- The place that the walk notes is that of a record with the number asked for, if there is one.
+use Rattle.whole.proofs.Basics.{◌≡◌, ◌∙◌, refl, sym, ap, subst, Bool, true, false, cond, ◌⊎◌, inl, inr, List, [], ◌∷◌, ◌++◌, append_assoc, append-nil, ℕ, ◌+◌, ◌≤◌, arith, eqb, length, length-append, eqb-true, eqb-false, le-ltb}
 use native.Mathlib.Nat.{add-zero}
 use Rattle.table.specs.declared.Class.TheVariants.{FormulaRecord}
 use Rattle.layout.specs.Fields.{bytes_at, formula_number}
 use Rattle.faults.proofs.Frames.{framed, reaches}
 use Rattle.records.specs.Sheets.{FormulaBytes, EachFormula, Rising, in_line, Has, SheetOf}
-use Rattle.walking.specs.Walking.{walk_of, Walkable}
+use Rattle.walking.specs.Walking.{walk_of, Walked, whole}
 use Rattle.walking.specs.Refused.{next_number}
-use Rattle.walking.specs.declared.Walked.{Walked}
-use Rattle.walking.specs.declared.Walked.TheVariants.{Whole, Broken}
 use Rattle.walking.proofs.Records.{frame_there, bytes_there}
 use Rattle.walking.proofs.Formulas.{place_in}
 use Rattle.walking.proofs.WalkToShape.{shape}
 use Rattle.walking.proofs.ShapeToWalk.{walked}
-use Rattle.sheet.specs.Reader.{formula_at, reading, place_found, place_answer, formula_place, read_at, FormulaStands}
-use Rattle.sheet.specs.declared.answers.Place.{Place}
-use Rattle.sheet.specs.declared.answers.Place.TheVariants.{At as StandsAt, Refused as Absent}
-use Rattle.sheet.specs.declared.answers.Found.TheVariants.{Given}
-
--- a sheet is walked from its first byte
-pub from_first : (s : ℕ) → Walkable s 0
-from_first s = record { near = omega arith; scale = λ n. absurd (n refl) }
+use Rattle.sheet.specs.Reader.{place_found, place_answer, formula_place, FormulaStands}
+use Rattle.std.specs.Prelude.{Err, Ok, Option, Some, None}
 
 -- a record of the number n, at the place k, where the first of them stands at `at`
 pub record RecordAt (n at k : ℕ) (fs : List (List ℕ)) : Type 0 where
@@ -43,25 +35,25 @@ further n at k b bs a =
     }
 
 -- the last record of the number, or the place that was noted before and no record of it
-pub noted : (n at k : ℕ) (fs : List (List ℕ)) → ((place_in n at k fs ≡ k) × (Has n fs → ⊥)) ⊎ RecordAt n at (place_in n at k fs) fs
+pub noted : (n at : ℕ) (k : Option ℕ) (fs : List (List ℕ)) → ((place_in (Some n) at k fs ≡ k) × (Has n fs → ⊥)) ⊎ ((j : ℕ) × (place_in (Some n) at k fs ≡ Some j) × RecordAt n at j fs)
 noted n at k [] = inl (refl, λ h. h)
-noted n at k (b ∷ bs) = by (eqb (formula_number b) n) refl (noted n (at + length b) at bs) (noted n (at + length b) k bs)
+noted n at k (b ∷ bs) = by (eqb (formula_number b) n) refl (noted n (at + length b) (Some at) bs) (noted n (at + length b) k bs)
   where
-    now : (x : ℕ) → x ≡ at → formula_number b ≡ n → RecordAt n at x (b ∷ bs)
-    now x e q = record { before = []; here = b; after = bs; is = refl; number = q; place = e ∙ sym (add-zero at) }
+    now : formula_number b ≡ n → RecordAt n at at (b ∷ bs)
+    now q = record { before = []; here = b; after = bs; is = refl; number = q; place = sym (add-zero at) }
 
     absent : (formula_number b ≡ n → ⊥) → (Has n bs → ⊥) → Has n (b ∷ bs) → ⊥
     absent h g (inl e) = h e
     absent h g (inr e) = g e
 
     by : (t : Bool) → eqb (formula_number b) n ≡ t
-        → ((place_in n (at + length b) at bs ≡ at) × (Has n bs → ⊥)) ⊎ RecordAt n (at + length b) (place_in n (at + length b) at bs) bs
-        → ((place_in n (at + length b) k bs ≡ k) × (Has n bs → ⊥)) ⊎ RecordAt n (at + length b) (place_in n (at + length b) k bs) bs
-        → ((place_in n (at + length b) (cond t at k) bs ≡ k) × (Has n (b ∷ bs) → ⊥)) ⊎ RecordAt n at (place_in n (at + length b) (cond t at k) bs) (b ∷ bs)
-    by true q (inl e) f = inr (now _ e.0 (eqb-true _ _ q))
-    by true q (inr a) f = inr (further n at _ b bs a)
+        → ((place_in (Some n) (at + length b) (Some at) bs ≡ Some at) × (Has n bs → ⊥)) ⊎ ((j : ℕ) × (place_in (Some n) (at + length b) (Some at) bs ≡ Some j) × RecordAt n (at + length b) j bs)
+        → ((place_in (Some n) (at + length b) k bs ≡ k) × (Has n bs → ⊥)) ⊎ ((j : ℕ) × (place_in (Some n) (at + length b) k bs ≡ Some j) × RecordAt n (at + length b) j bs)
+        → ((place_in (Some n) (at + length b) (cond t (Some at) k) bs ≡ k) × (Has n (b ∷ bs) → ⊥)) ⊎ ((j : ℕ) × (place_in (Some n) (at + length b) (cond t (Some at) k) bs ≡ Some j) × RecordAt n at j (b ∷ bs))
+    by true q (inl e) f = inr (at, e.0, now (eqb-true _ _ q))
+    by true q (inr (j, e, a)) f = inr (j, e, further n at j b bs a)
     by false q e (inl f) = inl (f.0, absent (eqb-false _ _ q) f.1)
-    by false q e (inr a) = inr (further n at _ b bs a)
+    by false q e (inr (j, f, a)) = inr (j, f, further n at j b bs a)
 
 pub has : (n at k : ℕ) (fs : List (List ℕ)) → RecordAt n at k fs → Has n fs
 has n at k fs a = subst (Has n) (sym a.is) (in_middle a.before)
@@ -118,45 +110,36 @@ stands s c bytes h n k a =
     )
 
 -- the place that a walk over an accepted sheet notes
-pub place_is : (s c k : ℕ) (bytes : List ℕ) (h : SheetOf s c bytes) (n : ℕ) → walk_of s bytes 0 n ≡ Whole c k → k ≡ place_in n (length h.start) 0 h.formulas
-place_is s c k bytes h n e =
-    let w = rw (append-nil bytes, le-ltb (length bytes) (length bytes + 0) (omega arith)) at (walked s c bytes [] h n) in
-    let q : Whole c k ≡ Whole c (place_in n (length h.start) 0 h.formulas) = sym e ∙ w in
-    cc
-
-pub standing : (s c k : ℕ) (bytes : List ℕ) (n : ℕ) → walk_of s bytes 0 n ≡ Whole c k → (k ≡ 0 → ⊥) → FormulaStands s bytes k
-standing s c k bytes n e z =
-    let h = shape s bytes c k n e in
-    let q = place_is s c k bytes h n e in
-    by h q (noted n (length h.start) 0 h.formulas)
+pub place_is : (s c : ℕ) (k : Option ℕ) (bytes : List ℕ) (h : SheetOf s c bytes) (asked : Option ℕ) → walk_of s bytes 0 asked ≡ whole c k → k ≡ place_in asked (length h.start) None h.formulas
+place_is s c k bytes h asked e =
+    let w = rw (append-nil bytes, le-ltb (length bytes) (length bytes + 0) (omega arith)) at (walked s c bytes [] h asked) in
+    ap note (sym e ∙ w)
   where
-    by : (h : SheetOf s c bytes) → k ≡ place_in n (length h.start) 0 h.formulas
-        → ((place_in n (length h.start) 0 h.formulas ≡ 0) × (Has n h.formulas → ⊥)) ⊎ RecordAt n (length h.start) (place_in n (length h.start) 0 h.formulas) h.formulas
+    note : Walked → Option ℕ
+    note (Ok w) = w.found
+    note (Err r) = None
+
+pub standing : (s c k : ℕ) (bytes : List ℕ) (n : ℕ) → walk_of s bytes 0 (Some n) ≡ whole c (Some k) → FormulaStands s bytes k
+standing s c k bytes n e =
+    let h = shape s bytes c (Some k) (Some n) e in
+    let q = place_is s c (Some k) bytes h (Some n) e in
+    by h q (noted n (length h.start) None h.formulas)
+  where
+    by : (h : SheetOf s c bytes) → Some k ≡ place_in (Some n) (length h.start) None h.formulas
+        → ((place_in (Some n) (length h.start) None h.formulas ≡ None) × (Has n h.formulas → ⊥)) ⊎ ((j : ℕ) × (place_in (Some n) (length h.start) None h.formulas ≡ Some j) × RecordAt n (length h.start) j h.formulas)
         → FormulaStands s bytes k
-    by h q (inl x) = absurd (z (q ∙ x.0))
-    by h q (inr a) = (stands s c bytes h n k (subst (λ (x : ℕ). RecordAt n (length h.start) x h.formulas) (sym q) a)).0
+    by h q (inl x) = absurd (let z : ◌≡◌ {A = ℕ} 0 1 = cc (q, x.0) in omega arith)
+    by h q (inr (j, e, a)) = let i : j ≡ k = cc in (stands s c bytes h n k (subst (λ (x : ℕ). RecordAt n (length h.start) x h.formulas) i a)).0
 
 -- the place that the reader answers
-pub place_standing : (s : ℕ) (bytes : List ℕ) (n k : ℕ) → formula_place s bytes n ≡ StandsAt k → FormulaStands s bytes k
+pub place_standing : (s : ℕ) (bytes : List ℕ) (n k : ℕ) → formula_place s bytes n ≡ Ok k → FormulaStands s bytes k
 unfolding formula_place
-place_standing s bytes n k e = by (walk_of s bytes 0 n) refl e
+place_standing s bytes n k e = by (walk_of s bytes 0 (Some n)) refl e
   where
-    noted_at : Place → ℕ
-    noted_at (StandsAt j) = j
-    noted_at (Absent r) = 0
+    noted_at : (c : ℕ) (j : Option ℕ) → walk_of s bytes 0 (Some n) ≡ whole c j → place_found j ≡ Ok k → FormulaStands s bytes k
+    noted_at c None q p = absurd (let z : ◌≡◌ {A = ℕ} 0 1 = cc in omega arith)
+    noted_at c (Some j) q p = let i : j ≡ k = cc in standing s c k bytes n (rw i at q)
 
-    Is : Place → Type 0
-    Is (StandsAt j) = Unit
-    Is (Absent r) = ⊥
-
-    by : (w : Walked) → walk_of s bytes 0 n ≡ w → place_answer w ≡ StandsAt k → FormulaStands s bytes k
-    by (Whole c zero) q p = absurd (subst Is (sym p) tt)
-    by (Whole c (suc j)) q p = subst (FormulaStands s bytes) (ap noted_at p) (standing s c (suc j) bytes n q (λ z. omega arith))
-    by (Broken r) q p = absurd (subst Is (sym p) tt)
-
-pub at_place : (k : ℕ) → (k ≡ 0 → ⊥) → StandsAt k ≡ place_found k
-at_place zero z = absurd (z refl)
-at_place (suc k) z = refl
-
-pub given : (bytes : List ℕ) (k : ℕ) → (k ≡ 0 → ⊥) → read_at bytes (place_found k) ≡ reading Given (formula_at bytes k)
-given bytes k z = sym (ap (read_at bytes) (at_place k z))
+    by : (w : Walked) → walk_of s bytes 0 (Some n) ≡ w → place_answer w ≡ Ok k → FormulaStands s bytes k
+    by (Ok w) q p = noted_at w.count w.found q p
+    by (Err r) q p = absurd (let z : ◌≡◌ {A = ℕ} 0 1 = cc in omega arith)

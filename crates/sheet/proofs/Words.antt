@@ -1,7 +1,6 @@
 -- A formula record without fault: it is complete, its formula has the words that stand in it, and is sound, not blank and admitted.
 use Rattle.whole.proofs.Basics.{◌≡◌, sym, subst, false, List, ℕ, take, ℤ}
 use Rattle.stored.proofs.WordsLaws.{length-words}
-use Rattle.admission.specs.declared.Admission.TheVariants.{Admitted}
 use Rattle.formula.specs.Formula.{word_count, Sound, admission_of}
 use Rattle.formula.specs.Blank.{blank_of}
 use Rattle.table.specs.declared.Class.TheVariants.{FormulaRecord}
@@ -14,6 +13,7 @@ use Rattle.faults.proofs.Lengths.{laid}
 use Rattle.records.specs.Sheets.{RecordOf, FormulaBytes}
 use Rattle.records.proofs.Soundness.{not_blank, admitted, sound_record}
 use Rattle.sheet.specs.Reader.{formula_in, Fit}
+use Rattle.admission.specs.Admission.{granted}
 
 pub complete_record : (b : List ℕ) → RecordOf FormulaRecord b → Complete (row_for b) b
 complete_record b r = complete (row_for b) b (ruled (code_of b)) r.class r.most (laid (row_for b) b r.exact)
@@ -34,5 +34,5 @@ fit s b f =
     record {
       sound = subst (λ (ws : List ℤ). Sound h (lo_of b) (hi_of b) ws) e (sound_record s r b (complete_record b f.one) f.inner);
       not_blank = subst (λ (ws : List ℤ). blank_of h ws ≡ false) e (not_blank s r h (lo_of b) (hi_of b) (words_of r b) f.inner);
-      admitted = subst (λ (ws : List ℤ). admission_of s h (lo_of b) (hi_of b) ws ≡ Admitted) e (admitted s r h (lo_of b) (hi_of b) (words_of r b) f.inner);
+      admitted = subst (λ (ws : List ℤ). admission_of s h (lo_of b) (hi_of b) ws ≡ granted) e (admitted s r h (lo_of b) (hi_of b) (words_of r b) f.inner);
     }

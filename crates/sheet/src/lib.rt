@@ -1,5 +1,4 @@
 // The reader of sheets, for everyone.
 #![tactic(auto)]
 
-pub mod answers;
 pub mod reader;

@@ -10,26 +10,23 @@ use Rattle.putting.specs.Plain.{Handed, plain_by, row_by, plain}
 use Rattle.putting.proofs.RecordBack.{number_again, formula_back, row_back}
 use Rattle.faults.specs.Faults.{scale_fault}
 use Rattle.records.specs.Sheets.{FormulaBytes, EachFormula, Rising, in_line, Has, RunOf, SheetOf}
-use Rattle.walking.specs.Walking.{walk_of}
-use Rattle.walking.specs.declared.Walked.{Walked}
-use Rattle.walking.specs.declared.Walked.TheVariants.{Whole, Broken}
+use Rattle.walking.specs.Walking.{walk_of, Walked}
 use Rattle.faults.proofs.ScaleLaws.{good_scale}
 use Rattle.walking.proofs.Formulas.{place_in}
 use Rattle.walking.proofs.WalkToShape.{run_shape}
-use Rattle.sheet.specs.Reader.{no_number, formula_count, reading, place_answer, formula_place, read_at, formula_read}
-use Rattle.sheet.specs.declared.answers.FormulaCount.TheVariants.{Count}
-use Rattle.sheet.specs.declared.answers.Found.TheVariants.{Given}
-use Rattle.sheet.proofs.Places.{RecordAt, noted, stands, given}
+use Rattle.sheet.specs.Reader.{formula_count, place_found, place_answer, formula_place, read_at, formula_read}
+use Rattle.sheet.proofs.Places.{RecordAt, noted, stands}
 use Rattle.sheet.proofs.AcceptedShape.{walk_of_lem, shape_count}
-use Rattle.record_writer.specs.Answers.{writing_number, refused_by}
+use Rattle.record_writer.specs.Answers.{refused_by}
 use Rattle.record_writer.specs.RecordWriter.{record_writing, bytes_of}
-use Rattle.record_writer.specs.declared.answers.Writing.TheVariants.{Written}
 use Rattle.record_writer.proofs.RecordFaults.{bytes_back}
 use Rattle.record_writer.proofs.Accepted.{accepts, tidy}
 use Rattle.sheet_writer.specs.SheetWriter.{run_walked, walked_writing, records_in, sheet_writing, sheet_bytes, sheet_of}
 use Rattle.sheet_writer.specs.RoundTrips.{EachWritten, Ascending, In, ReadAgain}
 use Rattle.sheet_writer.proofs.SheetLaws.{start_head}
 use Rattle.sheet_writer.proofs.SheetShape.{sheet_shape, run_is_whole, sheet_written}
+use Rattle.refusal.specs.Guard.{refused_number}
+use Rattle.std.specs.Prelude.{Err, Ok, Option, Some, None}
 
 -- ---- whatever the sheet writer has written
 
@@ -48,23 +45,23 @@ record Run (s : ℕ) (run : List ℕ) : Type 0 where
   some : 1 ≤ count
   shape : RunOf s count run
 
-run_of_lem : (s : ℕ) (run : List ℕ) (room n : ℕ) → sheet_writing s run room ≡ Written n → Run s run
+run_of_lem : (s : ℕ) (run : List ℕ) (room n : ℕ) → sheet_writing s run room ≡ Ok n → Run s run
 unfolding sheet_writing
 run_of_lem s run room n e = at (eqb (scale_fault s) 0) refl (eqb (length run) 0) refl e
   where
-    by : Scale s → (length run ≡ 0 → ⊥) → (x : Walked) → run_walked s run ≡ x → walked_writing x (length run) room ≡ Written n → Run s run
-    by k h (Whole c f) q p =
-        let r = run_shape s run 7 c f no_number (rw start_head at q) in
-        record { scale = k; count = c; many = ap records_in q; some = some_record s c run r h; shape = r }
-    by k h (Broken r) q p = absurd (let z : ◌≡◌ {A = ℕ} 0 1 = cc in omega arith)
+    by : Scale s → (length run ≡ 0 → ⊥) → (x : Walked) → run_walked s run ≡ x → walked_writing x (length run) room ≡ Ok n → Run s run
+    by k h (Ok w) q p =
+        let r = run_shape s run 7 w.count w.found None (rw start_head at q) in
+        record { scale = k; count = w.count; many = ap records_in q; some = some_record s w.count run r h; shape = r }
+    by k h (Err r) q p = absurd (let z : ◌≡◌ {A = ℕ} 0 1 = cc in omega arith)
 
     at : (t : Bool) → eqb (scale_fault s) 0 ≡ t → (u : Bool) → eqb (length run) 0 ≡ u
-        → cond t (cond u (refused_by 4) (walked_writing (run_walked s run) (length run) room)) (refused_by (scale_fault s)) ≡ Written n → Run s run
+        → cond t (cond u (refused_by 4) (walked_writing (run_walked s run) (length run) room)) (refused_by (scale_fault s)) ≡ Ok n → Run s run
     at false q u o p = absurd (let z : ◌≡◌ {A = ℕ} 0 1 = cc in omega arith)
     at true q true o p = absurd (let z : ◌≡◌ {A = ℕ} 0 1 = cc in omega arith)
     at true q false o p = by (good_scale s (eqb-true _ _ q)) (eqb-false _ _ o) (run_walked s run) refl p
 
-pub reads_sheet : (s : ℕ) (run : List ℕ) (room n : ℕ) → sheet_writing s run room ≡ Written n → formula_count s (sheet_of s run) ≡ Count (records_in (run_walked s run))
+pub reads_sheet : (s : ℕ) (run : List ℕ) (room n : ℕ) → sheet_writing s run room ≡ Ok n → formula_count s (sheet_of s run) ≡ Ok (records_in (run_walked s run))
 reads_sheet s run room n e =
     let k = run_of_lem s run room n e in
     let c = k.count in
@@ -79,10 +76,10 @@ record Record (s : ℕ) (f : Formula) : Type 0 where
   number : formula_number (bytes_of f) ≡ f.number
   again : formula_of (row_for (bytes_of f)) (bytes_of f) ≡ plain f
 
-one : (s : ℕ) (f : Formula) (room n : ℕ) → Handed f → record_writing s f room ≡ Written n → Record s f
+one : (s : ℕ) (f : Formula) (room n : ℕ) → Handed f → record_writing s f room ≡ Ok n → Record s f
 unfolding plain_by
 one s f room n h e =
-    let a = accepts s f room (ap writing_number e) in
+    let a = accepts s f room (ap refused_number e) in
     let d = tidy s f h a in
     record {
       scale = a.scale;
@@ -126,26 +123,27 @@ has b (x ∷ xs) (inl e) = inl (ap formula_number (sym e))
 has b (x ∷ xs) (inr i) = inr (has b xs i)
 
 -- the reader gives the formula of a record that a sheet has
-pub reads_record : (s c : ℕ) (bytes : List ℕ) (h : SheetOf s c bytes) (b : List ℕ) → In b h.formulas → formula_read s bytes (formula_number b) ≡ reading Given (formula_of (row_for b) b)
+pub reads_record : (s c : ℕ) (bytes : List ℕ) (h : SheetOf s c bytes) (b : List ℕ) → In b h.formulas → formula_read s bytes (formula_number b) ≡ Ok (formula_of (row_for b) b)
 unfolding formula_read formula_place
-reads_record s c bytes h b i = by (noted n (length h.start) 0 h.formulas)
+reads_record s c bytes h b i = by (noted n (length h.start) None h.formulas)
   where
     n : ℕ
     n = formula_number b
 
-    place : ℕ
-    place = place_in n (length h.start) 0 h.formulas
+    place : Option ℕ
+    place = place_in (Some n) (length h.start) None h.formulas
 
     middle : (l r : List (List ℕ)) (x : List ℕ) → In x (l ++ (x ∷ r))
     middle [] r x = inl refl
     middle (y ∷ l) r x = inr (middle l r x)
 
-    by : ((place ≡ 0) × (Has n h.formulas → ⊥)) ⊎ RecordAt n (length h.start) place h.formulas → read_at bytes (place_answer (walk_of s bytes 0 n)) ≡ reading Given (formula_of (row_for b) b)
+    by : ((place ≡ None) × (Has n h.formulas → ⊥)) ⊎ ((j : ℕ) × (place ≡ Some j) × RecordAt n (length h.start) j h.formulas)
+        → read_at bytes (place_answer (walk_of s bytes 0 (Some n))) ≡ Ok (formula_of (row_for b) b)
     by (inl x) = absurd (x.1 (has b h.formulas i))
-    by (inr a) =
+    by (inr (j, q, a)) =
         let same : a.here ≡ b = only 0 a.here b h.formulas h.rising (subst (In a.here) (sym a.is) (middle a.before a.after a.here)) i a.number in
-        let there : bytes_at bytes place ≡ b = (stands s c bytes h n place a).1 ∙ same in
-        ap (λ (w : Walked). read_at bytes (place_answer w)) (walk_of_lem s c bytes h n) ∙ given bytes place (λ z. omega (arith, a.place, z, h.opens.0.least)) ∙ ap (λ (x : List ℕ). reading Given (formula_of (row_for x) x)) there
+        let there : bytes_at bytes j ≡ b = (stands s c bytes h n j a).1 ∙ same in
+        ap (λ (w : Walked). read_at bytes (place_answer w)) (walk_of_lem s c bytes h (Some n)) ∙ ap (λ (k : Option ℕ). read_at bytes (place_found k)) q ∙ ap (λ (x : List ℕ). Ok (formula_of (row_for x) x)) there
 
 -- ---- the promise
 
@@ -166,7 +164,7 @@ reads_written s fs h m w o =
     let z = sheet_shape s c run k (omega (arith, l, h)) r in
     record {
       written = λ room g. sheet_written s c run room k (omega (arith, l, h)) r g;
-      count = rw e (shape_count s c (sheet_bytes c run) z ∙ ap Count l);
+      count = rw e (shape_count s c (sheet_bytes c run) z ∙ ap Ok l);
       each = λ f i.
           let t = in_records s f fs w i in
           rw e (rw (t.1.number, t.1.again) at (reads_record s c (sheet_bytes c run) z (bytes_of f) t.0));
@@ -177,6 +175,6 @@ reads_written s fs h m w o =
     length_map (f ∷ l) = ap suc (length_map l)
 
 -- of one formula
-pub reads_one : (s : ℕ) (f : Formula) (room n : ℕ) → Handed f → record_writing s f room ≡ Written n → ReadAgain s (f ∷ []) (bytes_of f)
+pub reads_one : (s : ℕ) (f : Formula) (room n : ℕ) → Handed f → record_writing s f room ≡ Ok n → ReadAgain s (f ∷ []) (bytes_of f)
 reads_one s f room n h e =
     rw (append-nil (bytes_of f)) at (reads_written s (f ∷ []) (omega arith) (omega arith) ((h, room, n, e), tt) (omega arith, tt))

@@ -5,8 +5,7 @@ use contract.Lifetimes.{Lfts}
 use borrow.Fn.Kinds.{Dens, ended_of, res_t}
 use denote.Triple.Clauses.{AtExit}
 use Rattle.whole.proofs.Settled.{AsksNothing, Settled}
-use Rattle.record_writer.specs.Answers.{buffer_after}
-use Rattle.record_writer.specs.declared.answers.Writing.{Writing}
+use Rattle.record_writer.specs.Answers.{buffer_after, Writing}
 use Rattle.sheet_writer.specs.SheetWriter.{sheet_of}
 use Rattle.sheet_writer.proofs.write_sheet.Kinds as sheet-kinds
 use Rattle.sheet_writer.proofs.write_sheet.Reads as sheet-reads

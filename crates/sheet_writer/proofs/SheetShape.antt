@@ -12,11 +12,11 @@ use Rattle.putting.proofs.RecordBack.{number_back}
 use Rattle.faults.specs.Faults.{outside, count_fault, size_fault, length_fault}
 use Rattle.faults.proofs.ScaleLaws.{no_scale_fault}
 use Rattle.records.specs.Sheets.{RecordOf, EachFormula, in_line, RunOf, SheetOf}
-use Rattle.walking.specs.declared.Walked.TheVariants.{Whole}
 use Rattle.walking.proofs.ShapeToWalk.{run_walked_lem}
-use Rattle.record_writer.specs.declared.answers.Writing.TheVariants.{Written}
 use Rattle.sheet_writer.specs.SheetWriter.{added, run_walked, sheet_bytes, sheet_writing}
 use Rattle.sheet_writer.proofs.SheetLaws.{start_head}
+use Rattle.walking.specs.Walking.{whole}
+use Rattle.std.specs.Prelude.{Ok, Option, None}
 
 pub start_record : (c : ℕ) → RecordOf StartRecord (framing_bytes start_row c)
 unfolding start_row front_bytes bytes2 bytes4 number2 number4 rows first_row row_of first_count field_of shape_of pieces_by outside count_fault length_fault size_fault
@@ -46,14 +46,14 @@ sheet_shape s c run k m r =
     }
 
 -- the walk over such a run
-pub run_is_whole : (s c : ℕ) (run : List ℕ) → RunOf s c run → (k : ℕ) × (run_walked s run ≡ Whole c k)
-run_is_whole s c run r = rw start_head (_, run_walked_lem s c run r 7 65536)
+pub run_is_whole : (s c : ℕ) (run : List ℕ) → RunOf s c run → (k : Option ℕ) × (run_walked s run ≡ whole c k)
+run_is_whole s c run r = rw start_head (_, run_walked_lem s c run r 7 None)
 
 some_byte : (s : ℕ) (l : List (List ℕ)) → 1 ≤ length l → EachFormula s l → length (in_line l) ≡ 0 → ⊥
 some_byte s [] n e z = omega arith
 some_byte s (b ∷ l) n e z = omega (arith, z, length-append b (in_line l), e.0.one.least)
 
-pub sheet_written : (s c : ℕ) (run : List ℕ) (room : ℕ) → Scale s → 1 ≤ c → RunOf s c run → length run + added ≤ room → sheet_writing s run room ≡ Written (length run + added)
+pub sheet_written : (s c : ℕ) (run : List ℕ) (room : ℕ) → Scale s → 1 ≤ c → RunOf s c run → length run + added ≤ room → sheet_writing s run room ≡ Ok (length run + added)
 unfolding sheet_writing
 sheet_written s c run room k m r h =
     let some : length run ≡ 0 → ⊥ = λ z. some_byte s r.formulas (omega (arith, r.many, m)) r.each (rw r.whole at z) in

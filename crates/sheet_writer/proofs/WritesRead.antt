@@ -27,19 +27,18 @@ use Rattle.faults.proofs.Lengths.{inside, laid}
 use Rattle.faults.proofs.ScaleLaws.{no_scale_fault}
 use Rattle.records.specs.Records.{value_fault, only_formula}
 use Rattle.records.specs.Sheets.{RecordOf, FormulaBytes, EachFormula, in_line, Has, RunOf, SheetOf}
-use Rattle.sheet.specs.Reader.{count_value, formula_count, Accepted, HasFormula, formula_read}
-use Rattle.sheet.specs.declared.answers.Reading.{Reading}
+use Rattle.sheet.specs.Reader.{count_value, formula_count, Accepted, HasFormula, formula_read, formula_given}
 use Rattle.sheet.proofs.Words.{words_in_lem}
 use Rattle.sheet.proofs.AcceptedShape.{accepted_shape}
 use Rattle.sheet.proofs.FormulasGiven.{found_exactly}
 use Rattle.record_writer.specs.Answers.{refused_by}
 use Rattle.record_writer.specs.RecordWriter.{room_writing, plain_writing, record_writing, bytes_of}
-use Rattle.record_writer.specs.declared.answers.Writing.TheVariants.{Written}
 use Rattle.sheet_writer.specs.SheetWriter.{added, run_walked, records_in, sheet_writing, sheet_of}
 use Rattle.sheet_writer.specs.RoundTrips.{In, run_of, OwnRecord}
 use Rattle.sheet_writer.proofs.SheetLaws.{start_head, end_head}
 use Rattle.sheet_writer.proofs.SheetShape.{run_is_whole, sheet_written}
 use Rattle.sheet_writer.proofs.ReadsWritten.{reads_record}
+use Rattle.std.specs.Prelude.{Ok}
 
 -- a part and the part behind it, each written again
 join : (b : List ℕ) (at n m k : ℕ) {x y : List ℕ} → x ≡ take n (drop at b) → y ≡ take m (drop k b) → k ≡ at + n → x ++ y ≡ take (n + m) (drop at b)
@@ -133,14 +132,14 @@ module _ (s : ℕ) (b : List ℕ) (w : FormulaBytes s b) (h : Bytes b) where
   values : value_fault s (row_for b) (shape_of (row_for b) b) (lo_of b) (hi_of b) (words_in (formula_of (row_for b) b)) ≡ 0
   values = ap (value_fault s (row_for b) (shape_of (row_for b) b) (lo_of b) (hi_of b)) (words_in_lem (row_for b) b) ∙ w.inner
 
-  plain-length : (room : ℕ) → length b ≤ room → plain_writing s (row_for b) (formula_of (row_for b) b) room ≡ Written (length b)
+  plain-length : (room : ℕ) → length b ≤ room → plain_writing s (row_for b) (formula_of (row_for b) b) room ≡ Ok (length b)
   unfolding plain_writing room_writing formula_of
   plain-length room g =
       let r = row_for b in
       let n = (laid r b w.one.exact).exact in
       sym (goes refused_by refl counts (goes refused_by refl values (rw (n, le-ltb room (length b) g) refl)))
 
-  pub own-length : Scale s → (room : ℕ) → length b ≤ room → record_writing s (formula_of (row_for b) b) room ≡ Written (length b)
+  pub own-length : Scale s → (room : ℕ) → length b ≤ room → record_writing s (formula_of (row_for b) b) room ≡ Ok (length b)
   unfolding record_writing
   own-length k room g =
       let r = row_again in
@@ -194,7 +193,7 @@ around s c bytes z h =
 pub run_again : (s c : ℕ) (bytes : List ℕ) (z : SheetOf s c bytes) → Bytes bytes → run_of bytes ≡ in_line z.formulas
 run_again s c bytes z h = (around s c bytes z h).between
 
-pub writes_sheet : (s : ℕ) (bytes : List ℕ) (room : ℕ) → Accepted s bytes → Bytes bytes → length bytes ≤ room → (sheet_writing s (run_of bytes) room ≡ Written (length bytes)) × (sheet_of s (run_of bytes) ≡ bytes)
+pub writes_sheet : (s : ℕ) (bytes : List ℕ) (room : ℕ) → Accepted s bytes → Bytes bytes → length bytes ≤ room → (sheet_writing s (run_of bytes) room ≡ Ok (length bytes)) × (sheet_of s (run_of bytes) ≡ bytes)
 writes_sheet s bytes room a h g =
     let c = count_value (formula_count s bytes) in
     let z = accepted_shape s bytes a in
@@ -202,7 +201,7 @@ writes_sheet s bytes room a h g =
     let run = in_line z.formulas in
     let r = run_in s c bytes z in
     let m : records_in (run_walked s run) ≡ c = ap records_in (run_is_whole s c run r).1 in (
-      ap (λ (l : List ℕ). sheet_writing s l room) o.between ∙ sheet_written s c run room z.scale z.opens.2 r (omega (arith, o.long, g)) ∙ ap Written (sym o.long),
+      ap (λ (l : List ℕ). sheet_writing s l room) o.between ∙ sheet_written s c run room z.scale z.opens.2 r (omega (arith, o.long, g)) ∙ ap Ok (sym o.long),
       ap (sheet_of s) o.between ∙ rw m (rw (o.opens, o.closes) (sym z.whole)),
     )
 
@@ -223,7 +222,7 @@ writes_record s c bytes h n t a =
     let x = holder n h.formulas ((found_exactly s c bytes h n).1 a) in
     let b = x.0 in
     let m = member s b h.formulas h.each (bytes_left (in_line h.formulas) h.finish (bytes_right h.start _ (subst Bytes h.whole t))) x.1 in
-    let e : (formula_read s bytes n).formula ≡ formula_of (row_for b) b = ap (λ (y : Reading). y.formula) (rw x.2 at (reads_record s c bytes h b x.1)) in
+    let e : (formula_given (formula_read s bytes n)) ≡ formula_of (row_for b) b = ap formula_given (rw x.2 at (reads_record s c bytes h b x.1)) in
     record {
       here = b;
       one = x.1;

@@ -1,20 +1,17 @@
 -- What the two promises speak of, at s binary places: reading undoes writing, and writing undoes reading.
-use Rattle.std.specs.Prelude.{ℕ, ◌+◌, ◌-◌, ◌≤◌, ◌≡◌, List, [], ◌∷◌, ◌++◌, ◌⊎◌, length, take, drop}
+use Rattle.std.specs.Prelude.{ℕ, ◌+◌, ◌-◌, ◌≤◌, ◌≡◌, List, [], ◌∷◌, ◌++◌, ◌⊎◌, length, take, drop, Ok}
 use Rattle.formula.specs.declared.Formula.{Formula}
 use Rattle.table.specs.Codes.{start_row}
 use Rattle.layout.specs.Fields.{formula_number}
-use Rattle.sheet.specs.Reader.{formula_count, reading, formula_read}
-use Rattle.sheet.specs.declared.answers.FormulaCount.TheVariants.{Count}
-use Rattle.sheet.specs.declared.answers.Found.TheVariants.{Given}
+use Rattle.sheet.specs.Reader.{formula_count, formula_read, formula_given}
 use Rattle.putting.specs.Plain.{Handed, plain}
 use Rattle.record_writer.specs.RecordWriter.{record_writing, bytes_of}
-use Rattle.record_writer.specs.declared.answers.Writing.TheVariants.{Written}
 use Rattle.sheet_writer.specs.SheetWriter.{added, sheet_writing, sheet_of}
 
 -- each is as code hands it over, and accepted
 abbrev pub EachWritten : ℕ → List Formula → Type 0
 EachWritten s [] = Unit
-EachWritten s (f ∷ fs) = (Handed f × (room : ℕ) × (n : ℕ) × (record_writing s f room ≡ Written n)) × EachWritten s fs
+EachWritten s (f ∷ fs) = (Handed f × (room : ℕ) × (n : ℕ) × (record_writing s f room ≡ Ok n)) × EachWritten s fs
 
 -- each number above the one before, and the first not below n
 abbrev pub Ascending : ℕ → List Formula → Type 0
@@ -28,9 +25,9 @@ In x (y ∷ ys) = (x ≡ y) ⊎ In x ys
 -- the sheet writer accepts the run of their records, and of that sheet the reader gives each for its number, with the fields
 -- that its kind has not at 0
 pub record ReadAgain (s : ℕ) (fs : List Formula) (run : List ℕ) : Type 0 where
-  pub written : (room : ℕ) → length run + added ≤ room → sheet_writing s run room ≡ Written (length run + added)
-  pub count : formula_count s (sheet_of s run) ≡ Count (length fs)
-  pub each : (f : Formula) → In f fs → formula_read s (sheet_of s run) f.number ≡ reading Given (plain f)
+  pub written : (room : ℕ) → length run + added ≤ room → sheet_writing s run room ≡ Ok (length run + added)
+  pub count : formula_count s (sheet_of s run) ≡ Ok (length fs)
+  pub each : (f : Formula) → In f fs → formula_read s (sheet_of s run) f.number ≡ Ok (plain f)
 
 -- what stands between a sheet's start and its end
 abbrev pub run_of : List ℕ → List ℕ
@@ -41,13 +38,13 @@ pub record OwnRecord (s : ℕ) (bytes : List ℕ) (n : ℕ) (bs : List (List ℕ
   pub here : List ℕ
   pub one : In here bs
   pub number : formula_number here ≡ n
-  pub again : bytes_of (formula_read s bytes n).formula ≡ here
-  pub written : (room : ℕ) → length here ≤ room → record_writing s (formula_read s bytes n).formula room ≡ Written (length here)
+  pub again : bytes_of (formula_given (formula_read s bytes n)) ≡ here
+  pub written : (room : ℕ) → length here ≤ room → record_writing s (formula_given (formula_read s bytes n)) room ≡ Ok (length here)
 
 -- what the reader gives for the number of each of a sheet's records, in their order; and the run of records that the record writer makes of formulas
 abbrev pub all_read : ℕ → List ℕ → List (List ℕ) → List Formula
 all_read s bytes [] = []
-all_read s bytes (b ∷ bs) = (formula_read s bytes (formula_number b)).formula ∷ all_read s bytes bs
+all_read s bytes (b ∷ bs) = (formula_given (formula_read s bytes (formula_number b))) ∷ all_read s bytes bs
 
 abbrev pub run_by : List Formula → List ℕ
 run_by [] = []

@@ -5,12 +5,11 @@ ghost use Rattle.std.specs.Prelude.{◌≡◌, ◌+◌, ◌≤◌, length};
 ghost use Rattle.std.proofs.lemmas.List.Edits.{sets};
 ghost use Rattle.word.specs.Words.{Scale};
 ghost use Rattle.record_writer.specs.Answers.{buffer_after};
-ghost use Rattle.sheet_writer.specs.SheetWriter.{added, run_walked, sheet_bytes, walked_writing, records_in, sheet_writing, sheet_of};
+ghost use Rattle.sheet_writer.specs.SheetWriter.{added, run_walked, sheet_bytes, whole_writing, sheet_writing, sheet_of};
 
-use record_writer::answers;
-use record_writer::answers::Writing;
-use sheet::reader;
-use walking::Walked;
+use refusal::{Fault, Refusal};
+use walking::Whole;
+use walking::sought::Asked;
 
 fn put_sheet(out: &mut [u8], run: &[u8], count: u16)
     requires { length run.now + added ≤ length out.old }
@@ -28,11 +27,11 @@ fn put_sheet(out: &mut [u8], run: &[u8], count: u16)
 }
 
 // The run as it will stand in the sheet, behind the start.
-fn walk_run(run: &[u8], s: u32) -> Walked
+fn walk_run(run: &[u8], s: u32) -> Result<Whole, Refusal>
     requires { Scale s }
     ensures { result ≡ run_walked s run.now }
 {
-    walking::walk_over(run, table::row_of(table::START).head, reader::NO_NUMBER, s)
+    walking::walk_over(run, table::row_of(table::START).head, Asked::none(), s)
 }
 
 // What a start and an end add to a run.
@@ -42,34 +41,27 @@ fn added() -> usize
     table::row_of(table::START).head + table::row_of(table::END).head
 }
 
-// A run that was walked over, put into a sheet where the buffer has room for it.
-fn write_walked(walked: Walked, run: &[u8], out: &mut [u8]) -> Writing
-    ensures result { result ≡ walked_writing walked (length run.now) (length out.old) }
-    ensures buffer { out.new ≡ buffer_after result (sheet_bytes (records_in walked) run.now) out.old }
+// A run of so many formulas, put into a sheet where the buffer has room for it.
+fn write_whole(run: &[u8], count: u16, out: &mut [u8]) -> Result<usize, Refusal>
+    ensures result { result ≡ whole_writing (length run.now) (length out.old) }
+    ensures buffer { out.new ≡ buffer_after result (sheet_bytes count run.now) out.old }
 {
-    match walked {
-        Walked::Whole { count, found: _ } => {
-            let n = run.len() + added();
-            if out.len() < n {
-                return answers::refused_by(12);
-            }
-            put_sheet(out, run, count);
-            Writing::Written(n)
-        }
-        Walked::Broken(r) => Writing::Refused(r),
+    let n = run.len() + added();
+    if out.len() < n {
+        return Err(Refusal::from(Fault::NoRoom));
     }
+    put_sheet(out, run, count);
+    Ok(n)
 }
 
-pub fn write_sheet(run: &[u8], out: &mut [u8], s: u32) -> Writing
+pub fn write_sheet(run: &[u8], out: &mut [u8], s: u32) -> Result<usize, Refusal>
     ensures result { result ≡ sheet_writing s run.now (length out.old) }
     ensures buffer { out.new ≡ buffer_after result (sheet_of s run.now) out.old }
 {
-    let f = faults::scale_fault(s);
-    if f != 0 {
-        return answers::refused_by(f);
+    faults::scale_fault(s)?;
+    if run.is_empty() {
+        return Err(Refusal::from(Fault::Count));
     }
-    if run.len() == 0 {
-        return answers::refused_by(4);
-    }
-    write_walked(walk_run(run, s), run, out)
+    let whole = walk_run(run, s)?;
+    write_whole(run, whole.count, out)
 }

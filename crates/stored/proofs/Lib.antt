@@ -2,4 +2,5 @@
 pub mod Back
 pub mod NumberLaws
 pub mod WordsLaws
+pub mod ValuesLaws
 pub mod StoreLaws

@@ -1,5 +1,6 @@
 -- Numbers in a part of a list, in a list that goes on, and where they were stored.
 use Rattle.whole.proofs.Basics.{◌≡◌, ◌∙◌, ap, List, ◌∷◌, ◌++◌, ℕ, ◌+◌, ◌*◌, ◌/◌, ◌%◌, ◌≤◌, ◌<◌, arith, length, take, drop, get_or, ℤ, w32, SFits, to_z, of_z, to_z-of_z}
+use Rattle.std.proofs.lemmas.Int.{of_z-to_z}
 use native.Mathlib.Nat.{add_assoc, add-zero, zero-add, div-div-eq-div-mul, mod-eq_of_lt, div-add-mod'}
 use lib.ListN.{get_or-append}
 use lib.Seq.{get_or-take, get_or-drop, get_or-append_seam, get_or-append-add}
@@ -53,3 +54,7 @@ pub word4_at : (a t : List ℕ) (z : ℤ) (k : ℕ) → SFits w32 z → k ≡ le
 word4_at a t z k f e =
     let h : Fits w32 (of_z w32 z) = of_z_fits w32 z f in
     ap (to_z w32) (number4_at a t (pattern z) k h.fits e) ∙ to_z-of_z f
+
+-- a pattern taken as a signed number, and that number written and read again
+pub signed_again : (z : ℤ) (n m : ℕ) → z ≡ to_z w32 n → n ≡ m → n < 4294967296 → to_z w32 (of_z w32 z) ≡ to_z w32 m
+signed_again z n m e f h = rw e (ap (to_z w32) (of_z-to_z w32 n h ∙ f))

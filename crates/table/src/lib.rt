@@ -137,6 +137,7 @@ const UNKNOWN: Line = Line {
 };
 
 // The only function that names the table: a constant is written out, and walked, in each that does.
+#[tactic(auto, unfolding(crate::specs::Table::rows))]
 fn all_lines() -> [Line; 8]
     ensures { result ≡ map line rows }
 {
@@ -144,6 +145,7 @@ fn all_lines() -> [Line; 8]
 }
 
 // By the code's name: a choice between constants, and a constant where the code is one.
+#[tactic(auto, unfolding(crate::specs::Table::rows, crate::specs::Table::first_row, crate::specs::Table::row_of))]
 fn line_of(code: u16) -> Line
     ensures { result ≡ line (row_of code) }
 {
@@ -196,6 +198,7 @@ pub fn row_of(code: u16) -> Row
 }
 
 // 0, which no row has, for a kind that is no formula.
+#[tactic(auto, unfolding(crate::specs::Table::rows, crate::specs::Table::first_row, crate::specs::Codes::code_for))]
 pub fn code_for(kind: Kind) -> u16
     ensures { result ≡ code_for kind }
 {
@@ -211,6 +214,7 @@ pub fn code_for(kind: Kind) -> u16
 }
 
 // How many pieces a record of the row has for two counts in their ranges, and how many bytes.
+#[tactic(auto, using(crate::proofs::Rule::few), unfolding(crate::specs::Table::pieces_by))]
 pub fn pieces_by(row: Row, p: u16, q: u16) -> usize
     requires ruled { Ruled row }
     requires first { p ≤ row.p.most }
@@ -221,6 +225,7 @@ pub fn pieces_by(row: Row, p: u16, q: u16) -> usize
     row.base + (times(row.p.each, p) as usize) + (times(row.q.each, q) as usize)
 }
 
+#[tactic(auto, using(crate::proofs::Rule::short))]
 pub fn length_by(row: Row, p: u16, q: u16) -> usize
     requires ruled { Ruled row }
     requires first { p ≤ row.p.most }

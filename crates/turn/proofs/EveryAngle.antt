@@ -11,15 +11,11 @@ use Rattle.formula.specs.declared.Kind.{Kind}
 use Rattle.formula.specs.Formula.{answer_of, steps_by}
 use Rattle.formula.specs.Exact.{exact_of}
 use Rattle.layout.specs.Fields.{words_in}
-use Rattle.faults.specs.declared.Refusal.{Refusal}
-use Rattle.faults.specs.Guard.{guard}
-use Rattle.sheet.specs.Reader.{found_number, formula_read, HasFormula}
-use Rattle.sheet.specs.declared.answers.Found.{Found}
-use Rattle.sheet.specs.declared.answers.Found.TheVariants.{Given, Refused as Withheld}
+use Rattle.refusal.specs.declared.Refusal.{Refusal}
+use Rattle.refusal.specs.Guard.{guard, refused_number}
+use Rattle.sheet.specs.Reader.{formula_read, HasFormula, Reading}
 use Rattle.sheet.proofs.FormulasGiven.{given_scale, given_fits}
-use Rattle.answering.specs.Answering.{evaluation_word, refused, answered, with_mark}
-use Rattle.answering.specs.declared.answers.Evaluation.{Evaluation}
-use Rattle.answering.specs.declared.answers.Evaluation.TheVariants.{Refused}
+use Rattle.answering.specs.Answering.{evaluation_word, refused, answered, with_mark, Evaluation}
 use Rattle.answering.proofs.IntervalLaws.{answerable}
 use Rattle.board.specs.Board.{when_given}
 use Rattle.board.proofs.AnswersInside.{formula_given, by_formula, answers_inside, odd_word}
@@ -27,14 +23,15 @@ use Rattle.turn.specs.Angles.{quarter_turn, angle_sum, quarter_of, rest_of, argu
 use Rattle.turn.specs.Sine.{sine_fault, ForSine, HasSine, signed_in, plain_in, sine_by, sine_in, sine_of, cosine_of}
 use Rattle.turn.proofs.ArgumentLaws.{rest_most, argument_low, argument_high}
 use Rattle.turn.proofs.FaultLaws.{or_fifteen, sine_needs, sine_enough}
+use Rattle.std.specs.Prelude.{Err, Ok}
 
 module _ (s : ℕ) (bytes : List ℕ) (n : ℕ) where
   abbrev f : Formula
   f = formula_given s bytes n
 
   -- ---- the reader's refusals come first
-  pub reader_first : (a : ℕ) (r : Refusal) → (formula_read s bytes n).found ≡ Withheld r → sine_of s bytes n a ≡ Refused r
-  reader_first a r e = ap (λ (i : Found). when_given i (sine_by s f (quarter_of a) (plain_in s bytes n (quarter_of a) (rest_of a)))) e
+  pub reader_first : (a : ℕ) (r : Refusal) → formula_read s bytes n ≡ Err r → sine_of s bytes n a ≡ Err r
+  reader_first a r e = ap (λ (i : Reading). when_given i (sine_by s f (quarter_of a) (plain_in s bytes n (quarter_of a) (rest_of a)))) e
 
   -- ---- then 15, for every angle
   pub fifteen : HasFormula s bytes n → (ForSine s f → ⊥) → (a : ℕ) → sine_of s bytes n a ≡ refused 15
@@ -92,15 +89,15 @@ module _ (s : ℕ) (bytes : List ℕ) (n : ℕ) where
 
   -- ---- so a sine ends in one of three ways: with the reader's refusal, with 15, or, by a sheet that has it, with an answer that has no steps
   abbrev pub ThreeWays : Evaluation → Type 0
-  ThreeWays e = ((r : Refusal) × ((formula_read s bytes n).found ≡ Withheld r) × (e ≡ Refused r)) ⊎ ((e ≡ refused 15) ⊎ (HasSine s bytes n × ((w : ℤ) × (t : Bool) × (e ≡ answered w 0 t))))
+  ThreeWays e = ((r : Refusal) × (formula_read s bytes n ≡ Err r) × (e ≡ Err r)) ⊎ ((e ≡ refused 15) ⊎ (HasSine s bytes n × ((w : ℤ) × (t : Bool) × (e ≡ answered w 0 t))))
 
   pub three_ways : (a : ℕ) → ThreeWays (sine_of s bytes n a)
-  three_ways a = at (formula_read s bytes n).found refl (or_fifteen s f)
+  three_ways a = at (formula_read s bytes n) refl (or_fifteen s f)
     where
       clash : ◌≡◌ {A = ℕ} 0 15 → ⊥
       clash e = omega arith
 
-      at : (i : Found) → (formula_read s bytes n).found ≡ i → (sine_fault s f ≡ 0) ⊎ (sine_fault s f ≡ 15) → ThreeWays (sine_of s bytes n a)
-      at (Withheld r) e k = inl (r, e, reader_first a r e)
-      at Given e (inl z) = let has = has_sine (ap found_number e) z in inr (inr (has, (_, _, every_angle has a)))
-      at Given e (inr z) = inr (inl (fifteen (ap found_number e) (λ k. clash (sym (sine_enough s f k) ∙ z)) a))
+      at : (i : Reading) → formula_read s bytes n ≡ i → (sine_fault s f ≡ 0) ⊎ (sine_fault s f ≡ 15) → ThreeWays (sine_of s bytes n a)
+      at (Err r) e k = inl (r, e, reader_first a r e)
+      at (Ok g) e (inl z) = let has = has_sine (ap refused_number e) z in inr (inr (has, (_, _, every_angle has a)))
+      at (Ok g) e (inr z) = inr (inl (fifteen (ap refused_number e) (λ k. clash (sym (sine_enough s f k) ∙ z)) a))

@@ -15,14 +15,10 @@ use Rattle.word.proofs.ExactLaws.{multiple_divides}
 use Rattle.word.proofs.LooseLaws.{whole_none}
 use Rattle.formula.proofs.ExactAnswer.{odd_zero_exact}
 use Rattle.layout.specs.Fields.{words_in}
-use Rattle.faults.specs.Guard.{guard}
-use Rattle.sheet.specs.Reader.{found_number, formula_read}
-use Rattle.sheet.specs.declared.answers.Found.{Found}
-use Rattle.sheet.specs.declared.answers.Found.TheVariants.{Given, Refused as Withheld}
+use Rattle.refusal.specs.Guard.{guard, refused_number}
+use Rattle.sheet.specs.Reader.{formula_read, Reading}
 use Rattle.sheet.proofs.FormulasGiven.{given_scale}
-use Rattle.answering.specs.Answering.{evaluation_word, evaluation_exact, refused, answered, with_mark}
-use Rattle.answering.specs.declared.answers.Evaluation.{Evaluation}
-use Rattle.answering.specs.declared.answers.Evaluation.TheVariants.{Answered, Refused}
+use Rattle.answering.specs.Answering.{evaluation_word, evaluation_exact, refused, answered, with_mark, Evaluation}
 use Rattle.answering.proofs.MarkLaws.{marked_exact}
 use Rattle.board.specs.Board.{when_given, evaluated}
 use Rattle.board.proofs.AnswersInside.{formula_given, answers_inside}
@@ -33,19 +29,20 @@ use Rattle.turn.proofs.AngleLaws.{by_quarter, sum_angle, difference_angle, half_
 use Rattle.turn.proofs.ArgumentLaws.{quarter_is}
 use Rattle.turn.proofs.FaultLaws.{or_fifteen}
 use Rattle.turn.proofs.EveryAngle.{has_sine, sine_given}
+use Rattle.std.specs.Prelude.{Err, Ok}
 
 -- ---- negation: twice is none, and only 0 is its own
 negated_back : (e : Evaluation) → negated (negated e) ≡ e
-negated_back (Answered w) = ap (λ (z : ℤ). answered z w.steps w.exact) (neg_ℤ-neg_ℤ w.word)
-negated_back (Refused r) = refl
+negated_back (Ok w) = ap (λ (z : ℤ). answered z w.steps w.exact) (neg_ℤ-neg_ℤ w.word)
+negated_back (Err r) = refl
 
 own_negation : (w : ℤ) → w ≡ neg_ℤ w → w ≡ pos 0
 own_negation w e = omega (zarith, (⊖ v w).is)
 
 -- it goes past refusals
-past : (a : Found) (fault : ℕ) (e : Evaluation) → when_given a (guard fault refused (negated e)) ≡ negated (when_given a (guard fault refused e))
-past (Withheld r) fault e = refl
-past Given fault e = at (eqb fault 0)
+past : (a : Reading) (fault : ℕ) (e : Evaluation) → when_given a (guard fault refused (negated e)) ≡ negated (when_given a (guard fault refused e))
+past (Err r) fault e = refl
+past (Ok f) fault e = at (eqb fault 0)
   where
     at : (t : Bool) → cond t (negated e) (refused fault) ≡ negated (cond t e (refused fault))
     at true = refl
@@ -53,12 +50,12 @@ past Given fault e = at (eqb fault 0)
 
 -- in quarters 0 and 1 an answer is as it is
 plainly : (e : Evaluation) → signed_by false e ≡ e
-plainly (Answered w) = refl
-plainly (Refused r) = refl
+plainly (Ok w) = refl
+plainly (Err r) = refl
 
 module _ (s : ℕ) (bytes : List ℕ) (n : ℕ) where
-  abbrev found : Found
-  found = (formula_read s bytes n).found
+  abbrev found : Reading
+  found = formula_read s bytes n
 
   abbrev fault : ℕ
   fault = sine_fault s (formula_given s bytes n)
@@ -121,10 +118,10 @@ module _ (s : ℕ) (bytes : List ℕ) (n : ℕ) where
   half_as_zero : sine_of s bytes n half_turn ≡ sine_of s bytes n 0
   half_as_zero = at found refl (or_fifteen s (formula_given s bytes n))
     where
-      at : (a : Found) → found ≡ a → (fault ≡ 0) ⊎ (fault ≡ 15) → sine_of s bytes n half_turn ≡ sine_of s bytes n 0
-      at (Withheld r) e k = rw e
-      at Given e (inl z) = let q = sine_of_zero (has_sine s bytes n (ap found_number e) z) in half_more 0 (omega arith) ∙ ap negated q ∙ sym q
-      at Given e (inr z) = rw (e, z)
+      at : (a : Reading) → found ≡ a → (fault ≡ 0) ⊎ (fault ≡ 15) → sine_of s bytes n half_turn ≡ sine_of s bytes n 0
+      at (Err r) e k = rw e
+      at (Ok g) e (inl z) = let q = sine_of_zero (has_sine s bytes n (ap refused_number e) z) in half_more 0 (omega arith) ∙ ap negated q ∙ sym q
+      at (Ok g) e (inr z) = rw (z, e)
 
   pub half_minus : (a : ℕ) → Angle a → sine_of s bytes n (angle_difference half_turn a) ≡ sine_of s bytes n a
   half_minus a h = at (dec_le (rest_of a) 0)

@@ -1,17 +1,17 @@
 -- Sine and cosine of an angle, by an odd formula of a whole sheet: the reader's refusals, then 15. The binary places are s.
-use Rattle.std.specs.Prelude.{◌≡◌, ℕ, Bool, true, false, cond, List, [], ◌∷◌, ℤ, pos, negsuc, ◌≤ℤ◌, int_lt, nat_lt, refl}
+use Rattle.std.specs.Prelude.{◌≡◌, ℕ, Bool, true, false, cond, List, [], ◌∷◌, ℤ, pos, negsuc, ◌≤ℤ◌, int_lt, nat_lt, refl, Err, Ok}
 use Rattle.word.specs.Words.{unit, with_sign}
 use Rattle.formula.specs.declared.Kind.{Kind}
 use Rattle.formula.specs.declared.Kind.TheVariants.{Polynomial, Rational, Fraction, Root, Odd, Even, NoFormula}
 use Rattle.formula.specs.declared.Formula.{Formula}
 use Rattle.layout.specs.Fields.{shape, formula}
-use Rattle.faults.specs.Guard.{refusal, guard, or_else}
-use Rattle.sheet.specs.Reader.{reader_refusals, formula_read, HasFormula}
-use Rattle.answering.specs.Answering.{refused, answered, with_mark}
-use Rattle.answering.specs.declared.answers.Evaluation.{Evaluation}
-use Rattle.answering.specs.declared.answers.Evaluation.TheVariants.{Answered, Refused}
+use Rattle.refusal.specs.Guard.{refusal, guard, or_else}
+use Rattle.sheet.specs.Reader.{reader_refusals, formula_read, HasFormula, formula_given}
+use Rattle.answering.specs.Answering.{refused, answered, with_mark, Evaluation}
 use Rattle.board.specs.Board.{when_given, evaluated}
 use Rattle.turn.specs.Angles.{quarter_turn, angle_sum, quarter_of, rest_of, argument_in, exact_in}
+use Rattle.formula.specs.declared.Worked.{Worked}
+use Rattle.formula.specs.Formula.{worked}
 
 -- the refusals that sine and cosine can give: the reader's and 15
 abbrev pub sine_refusals : List ℕ
@@ -42,12 +42,15 @@ pub record ForSine (s : ℕ) (f : Formula) : Type 0 where
 
 -- the sheet is accepted, and its formula n is for sine and cosine
 abbrev pub HasSine : ℕ → List ℕ → ℕ → Type 0
-HasSine s bytes n = HasFormula s bytes n × ForSine s (formula_read s bytes n).formula
+HasSine s bytes n = HasFormula s bytes n × ForSine s (formula_given (formula_read s bytes n))
 
 -- ---- an answer, its word negated where the sign is set; a refusal stays as it is
+abbrev pub signed_answer : Bool → Worked → Worked
+signed_answer sign w = worked (with_sign sign w.word) w.steps w.exact
+
 abbrev pub signed_by : Bool → Evaluation → Evaluation
-signed_by sign (Answered w) = answered (with_sign sign w.word) w.steps w.exact
-signed_by sign (Refused r) = Refused r
+signed_by sign (Ok w) = Ok (signed_answer sign w)
+signed_by sign (Err r) = Err r
 
 abbrev pub negated : Evaluation → Evaluation
 negated e = signed_by true e
@@ -64,7 +67,7 @@ abbrev pub plain_in : ℕ → List ℕ → ℕ → ℕ → ℕ → Evaluation
 plain_in s bytes n quarter f = with_mark (exact_in s quarter f) (evaluated s bytes n (argument_in s quarter f))
 
 abbrev pub sine_in : ℕ → List ℕ → ℕ → ℕ → ℕ → Evaluation
-sine_in s bytes n quarter f = when_given (formula_read s bytes n).found (sine_by s (formula_read s bytes n).formula quarter (plain_in s bytes n quarter f))
+sine_in s bytes n quarter f = when_given (formula_read s bytes n) (sine_by s (formula_given (formula_read s bytes n)) quarter (plain_in s bytes n quarter f))
 
 abbrev pub sine_of : ℕ → List ℕ → ℕ → ℕ → Evaluation
 sine_of s bytes n a = sine_in s bytes n (quarter_of a) (rest_of a)
@@ -115,7 +118,7 @@ over kind lo = formula 5 (shape kind 1 0 0) lo (pos 16777216) []
 
 answer_or_fifteen :
     (sine_by 24 (over Odd (pos 0)) 0 (answered (pos 3) 0 true) ≡ answered (pos 3) 0 true)
-    × (sine_by 24 (over Odd (pos 1)) 0 (answered (pos 3) 0 true) ≡ Refused (refusal 0 15))
-    × (sine_by 24 (over Even (pos 0)) 2 (answered (pos 3) 0 true) ≡ Refused (refusal 0 15))
+    × (sine_by 24 (over Odd (pos 1)) 0 (answered (pos 3) 0 true) ≡ Err (refusal 0 15))
+    × (sine_by 24 (over Even (pos 0)) 2 (answered (pos 3) 0 true) ≡ Err (refusal 0 15))
 unfolding span_fault
 answer_or_fifteen = (refl, refl, refl)

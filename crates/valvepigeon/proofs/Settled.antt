@@ -5,13 +5,10 @@ use denote.Triple.Clauses.{AtExit}
 use contract.Lifetimes.{Lfts}
 use borrow.Fn.Kinds.{Dens, ended_of, res_t}
 use Rattle.whole.proofs.Settled.{AsksNothing, Settled}
-use Rattle.formula.specs.declared.Formula.{Formula}
 use Rattle.door.proofs.Determined.{exactly_unique}
-use Rattle.sheet.specs.Reader.{formula_read}
-use Rattle.sheet.specs.declared.answers.Found.{Found}
-use Rattle.sheet.specs.declared.answers.Found.TheVariants.{Given, Refused as Withheld}
+use Rattle.sheet.specs.Reader.{formula_read, Reading}
 use Rattle.desk.specs.Desk.{evaluated_double}
-use Rattle.c_answers.specs.Answers.{Spans}
+use Rattle.c_answers.specs.Answers.{SpannedBy}
 use Rattle.c_answers.specs.declared.answers.IntervalEnds.{IntervalEnds}
 use Rattle.c_answers.proofs.DoubleLaws.{shown_by_once}
 use Rattle.valvepigeon.specs.Places.{places}
@@ -33,6 +30,7 @@ use Rattle.valvepigeon.proofs.vp_write_record.Kinds as record-kinds
 use Rattle.valvepigeon.proofs.vp_write_record.Reads as record-reads
 use Rattle.valvepigeon.proofs.vp_write_sheet.Kinds as sheet-kinds
 use Rattle.valvepigeon.proofs.vp_write_sheet.Reads as sheet-reads
+use Rattle.std.specs.Prelude.{Ok, Err}
 
 -- ---- nothing is asked
 
@@ -77,15 +75,15 @@ evaluate_settled κs a x y s t p q = p ∙ sym q
 pub evaluate_double_settled : Settled double-kinds.ps double-kinds.r double-reads.Learnt
 evaluate_double_settled κs a x y s t p q = shown_by_once places (evaluated_double places a.0.now a.1.0 a.1.1.0) x y p q
 
-spans_once : (a : Found) (f : Formula) (x y : IntervalEnds) → Spans places a f x → Spans places a f y → x ≡ y
-spans_once Given f x y p q =
+spans_once : (a : Reading) (x y : IntervalEnds) → SpannedBy places a x → SpannedBy places a y → x ≡ y
+spans_once (Ok f) x y p q =
     let low = exactly_unique places f.lo x.low y.low p.2 q.2 in
     let high = exactly_unique places f.hi x.high y.high p.3 q.3 in
     λ i. record { refused = (p.0 ∙ sym q.0) i; place = (p.1 ∙ sym q.1) i; low = low i; high = high i }
-spans_once (Withheld r) f x y p q = p ∙ sym q
+spans_once (Err r) x y p q = p ∙ sym q
 
 pub interval_settled : Settled interval-kinds.ps interval-kinds.r interval-reads.Learnt
-interval_settled κs a x y s t p q = (let r = formula_read places a.0.now a.1.0 in spans_once r.found r.formula x y p q)
+interval_settled κs a x y s t p q = spans_once (formula_read places a.0.now a.1.0) x y p q
 
 pub sine_settled : Settled sine-kinds.ps sine-kinds.r sine-reads.Learnt
 sine_settled κs a x y s t p q = p ∙ sym q

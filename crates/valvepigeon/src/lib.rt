@@ -16,7 +16,7 @@ ghost use Rattle.valvepigeon.specs.Places.{places};
 use c_answers::answers::{
     CountedFormulas, Fields, FoundFields, IntervalEnds, ShownValue, WorkedWord, WrittenLength,
 };
-use c_answers::{conversions, fields};
+use formula::Formula;
 use sheet::reader;
 
 // A word stands for w / 2^24; the layers below take the binary places from here.
@@ -26,49 +26,51 @@ const PLACES: u32 = 24;
 pub extern "C" fn vp_count(sheet: &[u8]) -> CountedFormulas
     ensures { result ≡ counted (formula_count places sheet.now) }
 {
-    conversions::counted(reader::formula_count(sheet, PLACES))
+    CountedFormulas::from(reader::formula_count(sheet, PLACES))
 }
 
 #[unsafe(no_mangle)]
 pub extern "C" fn vp_formula(sheet: &[u8], number: u16) -> FoundFields
     ensures { result ≡ found (formula_read places sheet.now number) }
 {
-    conversions::found(reader::read_formula(sheet, number, PLACES))
+    FoundFields::from(reader::read_formula(sheet, number, PLACES))
 }
 
 #[unsafe(no_mangle)]
 pub extern "C" fn vp_evaluate(sheet: &[u8], number: u16, argument: i32) -> WorkedWord
     ensures { result ≡ worked (evaluated places sheet.now number argument) }
 {
-    conversions::worked(board::evaluate(sheet, number, argument, PLACES))
+    WorkedWord::from(board::evaluate(sheet, number, argument, PLACES))
 }
 
 #[unsafe(no_mangle)]
+#[tactic(auto, using(c_answers::proofs::DoubleLaws::shown_by))]
 pub extern "C" fn vp_evaluate_double(sheet: &[u8], number: u16, argument: f64) -> ShownValue
     ensures { ShownBy places (evaluated_double places sheet.now number argument) result }
 {
-    conversions::shown(desk::evaluate_double(sheet, number, argument, PLACES))
+    ShownValue::from(desk::evaluate_double(sheet, number, argument, PLACES))
 }
 
 #[unsafe(no_mangle)]
+#[tactic(auto, using(c_answers::proofs::DoubleLaws::spans_by))]
 pub extern "C" fn vp_interval(sheet: &[u8], number: u16) -> IntervalEnds
     ensures { SpannedBy places (formula_read places sheet.now number) result }
 {
-    conversions::spanned(desk::interval(sheet, number, PLACES))
+    IntervalEnds::from(desk::interval(sheet, number, PLACES))
 }
 
 #[unsafe(no_mangle)]
 pub extern "C" fn vp_sine(sheet: &[u8], number: u16, angle: u32) -> WorkedWord
     ensures { result ≡ worked (sine_of places sheet.now number angle) }
 {
-    conversions::worked(turn::sine(sheet, number, angle, PLACES))
+    WorkedWord::from(turn::sine(sheet, number, angle, PLACES))
 }
 
 #[unsafe(no_mangle)]
 pub extern "C" fn vp_cosine(sheet: &[u8], number: u16, angle: u32) -> WorkedWord
     ensures { result ≡ worked (cosine_of places sheet.now number angle) }
 {
-    conversions::worked(turn::cosine(sheet, number, angle, PLACES))
+    WorkedWord::from(turn::cosine(sheet, number, angle, PLACES))
 }
 
 #[unsafe(no_mangle)]
@@ -76,7 +78,7 @@ pub extern "C" fn vp_write_record(fields: Fields, out: &mut [u8]) -> WrittenLeng
     ensures result { result ≡ written (record_writing places (formula_by fields) (length out.old)) }
     ensures buffer { out.new ≡ buffer_after (record_writing places (formula_by fields) (length out.old)) (bytes_of (formula_by fields)) out.old }
 {
-    conversions::written(record_writer::write_record(fields::formula_by(fields), out, PLACES))
+    WrittenLength::from(record_writer::write_record(Formula::from(fields), out, PLACES))
 }
 
 #[unsafe(no_mangle)]
@@ -84,5 +86,5 @@ pub extern "C" fn vp_write_sheet(run: &[u8], out: &mut [u8]) -> WrittenLength
     ensures result { result ≡ written (sheet_writing places run.now (length out.old)) }
     ensures buffer { out.new ≡ buffer_after (sheet_writing places run.now (length out.old)) (sheet_of places run.now) out.old }
 {
-    conversions::written(sheet_writer::write_sheet(run, out, PLACES))
+    WrittenLength::from(sheet_writer::write_sheet(run, out, PLACES))
 }

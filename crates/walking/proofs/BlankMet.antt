@@ -5,10 +5,10 @@ use native.Mathlib.Nat.{zero-add}
 use Rattle.word.specs.Words.{Scale}
 use Rattle.table.specs.declared.Class.TheVariants.{StartRecord, FormulaRecord}
 use Rattle.layout.specs.Fields.{row_for, count_of, formula_number, shape_of, lo_of, hi_of, words_of}
-use Rattle.faults.specs.Guard.{refusal}
+use Rattle.refusal.specs.Guard.{refusal}
 use Rattle.faults.specs.Faults.{order_fault, own_fault, words_fault}
 use Rattle.faults.specs.Refusals.{OneOf, record_refusals}
-use Rattle.faults.specs.declared.Refusal.{Refusal}
+use Rattle.refusal.specs.declared.Refusal.{Refusal}
 use Rattle.faults.proofs.Chain.{neither}
 use Rattle.faults.proofs.FaultSets.{Fault, one_of, some, first, order_set, own-set, words-set}
 use Rattle.records.specs.Records.{value_fault, inner_fault}
@@ -18,10 +18,10 @@ use Rattle.walking.specs.Walking.{begin, fault_at, after_start, after_formula, w
 use Rattle.walking.specs.Refused.{next_number}
 use Rattle.walking.specs.BlankRecords.{BlankBytes, EachFormulaRecord, BlankBehind, blank_refusals, BlankOrBefore, BlankNext}
 use Rattle.walking.specs.declared.Walk.{Walk}
-use Rattle.walking.specs.declared.Walked.TheVariants.{Broken}
 use Rattle.walking.proofs.Numbered.{fault}
 use Rattle.walking.proofs.Formulas.{content_fault, goes_on, stops_at, in_place, after_all, behind, past_all}
 use Rattle.walking.proofs.ShapeToWalk.{past_start}
+use Rattle.std.specs.Prelude.{Err, Option}
 
 -- ---- the values of a blank formula: 6, or 14
 module _ (s : ℕ) (b : List ℕ) (h : BlankBytes b) where
@@ -47,7 +47,7 @@ further at c cs r (inr (p, o)) = inr (inr p, o)
 module _ (s : ℕ) (bytes : List ℕ) (from : ℕ) where
   -- the walk stands at the blank record
   blank_here : (n : ℕ) (before b after : List ℕ) (w : Walk) → BlankBytes b → bytes ≡ before ++ (b ++ after) → w.at ≡ from + length before → (w.at ≡ 0 → ⊥)
-      → (r : Refusal) × (walk_from n s bytes from w ≡ Broken r) × (r.place ≡ w.at) × OneOf blank_refusals r.number
+      → (r : Refusal) × (walk_from n s bytes from w ≡ Err r) × (r.place ≡ w.at) × OneOf blank_refusals r.number
   unfolding walk_from
   blank_here zero before b after w h q a z = (refusal w.at 4, refl, refl, one_of blank_refusals 4 tt)
   blank_here (suc n) before b after w h q a z =
@@ -60,7 +60,7 @@ module _ (s : ℕ) (bytes : List ℕ) (from : ℕ) where
 
   -- it comes to it, or is broken before
   pub blank_met : (n : ℕ) (records : List (List ℕ)) (before b after : List ℕ) (w : Walk) → EachFormulaRecord records → BlankBytes b → bytes ≡ before ++ (in_line records ++ (b ++ after)) → w.at ≡ from + length before → (w.at ≡ 0 → ⊥)
-      → (r : Refusal) × (walk_from n s bytes from w ≡ Broken r) × BlankOrBefore w.at records r
+      → (r : Refusal) × (walk_from n s bytes from w ≡ Err r) × BlankOrBefore w.at records r
   unfolding walk_from
   blank_met n [] before b after w k h q a z =
       let m = blank_here n before b after w h q a z in
@@ -71,8 +71,8 @@ module _ (s : ℕ) (bytes : List ℕ) (from : ℕ) where
       by q' (blank_met n cs (before ++ c) b after (after_formula c w) k.1 h (q' ∙ sym (append_assoc before c (in_line cs ++ (b ++ after)))) (omega (arith, a, length-append before c)) (λ x. z (omega (arith, x))))
       (eqb (fault_at s bytes from w) 0) refl
     where
-      by : bytes ≡ before ++ (c ++ (in_line cs ++ (b ++ after))) → (r : Refusal) × (walk_from n s bytes from (after_formula c w) ≡ Broken r) × BlankOrBefore (w.at + length c) cs r
-          → (t : Bool) → eqb (fault_at s bytes from w) 0 ≡ t → (r : Refusal) × (walk_from (suc n) s bytes from w ≡ Broken r) × BlankOrBefore w.at (c ∷ cs) r
+      by : bytes ≡ before ++ (c ++ (in_line cs ++ (b ++ after))) → (r : Refusal) × (walk_from n s bytes from (after_formula c w) ≡ Err r) × BlankOrBefore (w.at + length c) cs r
+          → (t : Bool) → eqb (fault_at s bytes from w) 0 ≡ t → (r : Refusal) × (walk_from (suc n) s bytes from w ≡ Err r) × BlankOrBefore w.at (c ∷ cs) r
       by e m true f =
           let p = in_place s bytes from w.at z in
           let none = sym (content_fault s bytes from before c _ FormulaRecord w k.0 e a p) ∙ eqb-true _ _ f in
@@ -82,18 +82,18 @@ module _ (s : ℕ) (bytes : List ℕ) (from : ℕ) where
           (refusal w.at (fault_at s bytes from w), stops_at s bytes from before c _ w n k.0.least e a none, inr (inl refl, some record_refusals _ none (fault s bytes from w)))
 
 -- over a sheet, from its start on
-module _ (s : ℕ) (start rest : List ℕ) (asked : ℕ) (o : RecordOf StartRecord start) (h : BlankBehind rest) where
+module _ (s : ℕ) (start rest : List ℕ) (asked : Option ℕ) (o : RecordOf StartRecord start) (h : BlankBehind rest) where
   abbrev bytes : List ℕ
   bytes = start ++ rest
 
   abbrev begun : Walk
   begun = begin 0 asked
 
-  pub blank_walked : (r : Refusal) × (walk_of s bytes 0 asked ≡ Broken r) × BlankOrBefore 0 (start ∷ h.records) r
+  pub blank_walked : (r : Refusal) × (walk_of s bytes 0 asked ≡ Err r) × BlankOrBefore 0 (start ∷ h.records) r
   unfolding walk_of
   blank_walked = by (eqb (fault_at s bytes 0 begun) 0) refl
     where
-      by : (t : Bool) → eqb (fault_at s bytes 0 begun) 0 ≡ t → (r : Refusal) × (walk_from 66 s bytes 0 begun ≡ Broken r) × BlankOrBefore 0 (start ∷ h.records) r
+      by : (t : Bool) → eqb (fault_at s bytes 0 begun) 0 ≡ t → (r : Refusal) × (walk_from 66 s bytes 0 begun ≡ Err r) × BlankOrBefore 0 (start ∷ h.records) r
       by true f =
           let m = blank_met s bytes 0 65 h.records start h.blank h.after (after_start start begun) h.each h.is (ap (λ (t : List ℕ). start ++ t) h.whole) (omega arith) (λ z. omega (arith, z, o.least)) in
           let none = sym (content_fault s bytes 0 [] start rest StartRecord begun o refl refl refl) ∙ eqb-true _ _ f in
@@ -130,17 +130,17 @@ module _ (s : ℕ) (bytes : List ℕ) (from : ℕ) (before rest : List ℕ) (mos
       ∙ rw (ne_eqb v.seen v.count (λ x. omega (arith, x, d.seen, d.count, none_seen, count, h.room)), le-ltb (formula_number b) v.next (omega (arith, next, h.number)))
       (fourteen s r (shape_of r b) (lo_of b) (hi_of b) (words_of r b) h.own h.words h.is.blank)
 
-  pub fourteen_met : (n : ℕ) → length h.formulas < n → walk_from n s bytes from w ≡ Broken (refusal (w.at + length (in_line h.formulas)) 14)
+  pub fourteen_met : (n : ℕ) → length h.formulas < n → walk_from n s bytes from w ≡ Err (refusal (w.at + length (in_line h.formulas)) 14)
   fourteen_met n l =
       let k = n - length h.formulas - 1 in
       let m : n ≡ length h.formulas + suc k = omega (arith, l) in
       ap (λ (j : ℕ). walk_from j s bytes from w) m
       ∙ past_all s bytes from h.formulas before (h.blank ++ h.after) w (suc k) whole a z (omega (arith, none_seen, count, h.room)) h.each (rw first-number h.rising)
       ∙ stops_at s bytes from front h.blank h.after v k h.is.one.least there at (λ e. omega (arith, e, fourteen_here))
-      ∙ ap Broken (rw (fourteen_here, (behind h.formulas w).at) refl)
+      ∙ ap Err (rw (fourteen_here, (behind h.formulas w).at) refl)
 
-pub fourteen_walked : (s : ℕ) (start rest : List ℕ) (asked : ℕ) → Scale s → RecordOf StartRecord start → 1 ≤ count_of start → count_of start ≤ 64 → (h : BlankNext s (count_of start) rest)
-    → walk_of s (start ++ rest) 0 asked ≡ Broken (refusal (length start + length (in_line h.formulas)) 14)
+pub fourteen_walked : (s : ℕ) (start rest : List ℕ) (asked : Option ℕ) → Scale s → RecordOf StartRecord start → 1 ≤ count_of start → count_of start ≤ 64 → (h : BlankNext s (count_of start) rest)
+    → walk_of s (start ++ rest) 0 asked ≡ Err (refusal (length start + length (in_line h.formulas)) 14)
 unfolding walk_of
 fourteen_walked s start rest asked k o l m h =
     past_start s (start ++ rest) start rest asked 65 refl o l m k

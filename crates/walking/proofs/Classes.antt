@@ -7,7 +7,7 @@ use Rattle.table.specs.Table.{rows, first_row, row_of}
 use Rattle.table.specs.Codes.{start_row, end_row}
 use Rattle.table.proofs.CodeLaws.{code_found, start_row_lem, end_row_lem}
 use Rattle.layout.specs.Fields.{code_of, row_for, count_of}
-use Rattle.faults.specs.Guard.{or_else}
+use Rattle.refusal.specs.Guard.{or_else}
 use Rattle.faults.specs.Faults.{length_fault, start_fault, scale_fault, end_fault}
 use Rattle.faults.proofs.Chain.{or_assoc}
 use Rattle.records.specs.Records.{formula_fault, only_formula}

@@ -5,16 +5,15 @@ use Rattle.table.specs.declared.Class.{Class}
 use Rattle.table.specs.declared.Class.TheVariants.{StartRecord, FormulaRecord, EndRecord, Unknown}
 use Rattle.table.proofs.Rule.{ruled}
 use Rattle.layout.specs.Fields.{code_of, row_for, count_of, formula_number}
-use Rattle.faults.specs.Guard.{refusal}
+use Rattle.refusal.specs.Guard.{refusal}
 use Rattle.faults.specs.Faults.{frame_fault, length_fault, start_fault, order_fault, end_fault}
 use Rattle.faults.proofs.ScaleLaws.{good_scale}
 use Rattle.faults.proofs.Chain.{halts, goes, passed, met, neither}
 use Rattle.faults.proofs.Lengths.{inside}
 use Rattle.records.specs.Records.{inner_fault}
-use Rattle.walking.specs.Walking.{place_fault, class_fault, record_fault, record_here, fault_at, after_start, after_formula, ending, onward, run_done, walk_from}
+use Rattle.walking.specs.Walking.{place_fault, class_fault, record_fault, record_here, fault_at, after_start, after_formula, ending, onward, run_done, walk_from, Walked, whole}
 use Rattle.walking.specs.declared.Walk.{Walk}
-use Rattle.walking.specs.declared.Walked.{Walked}
-use Rattle.walking.specs.declared.Walked.TheVariants.{Whole, Broken}
+use Rattle.std.specs.Prelude.{Err}
 
 -- ---- the chain
 pub record Clear (s : ℕ) (bytes : List ℕ) (from : ℕ) (w : Walk) (b : List ℕ) : Type 0 where
@@ -81,22 +80,22 @@ module _ (s : ℕ) (bytes : List ℕ) (from : ℕ) (w : Walk) (k : ℕ) where
   abbrev rest : Walked
   rest = onward (walk_from k s bytes from) (row_for here).class here w (length bytes)
 
-  pub walk_done : run_done bytes from w ≡ true → walk_from (suc k) s bytes from w ≡ Whole w.seen w.found
+  pub walk_done : run_done bytes from w ≡ true → walk_from (suc k) s bytes from w ≡ whole w.seen w.found
   unfolding walk_from
   walk_done d = rw d refl
 
-  pub walk_broken : {f : ℕ} → run_done bytes from w ≡ false → f ≡ fault_at s bytes from w → (f ≡ 0 → ⊥) → walk_from (suc k) s bytes from w ≡ Broken (refusal w.at f)
+  pub walk_broken : {f : ℕ} → run_done bytes from w ≡ false → f ≡ fault_at s bytes from w → (f ≡ 0 → ⊥) → walk_from (suc k) s bytes from w ≡ Err (refusal w.at f)
   unfolding walk_from
-  walk_broken d e h = rw d (sym (halts (λ n. Broken (refusal w.at n)) rest e h refl))
+  walk_broken d e h = rw d (sym (halts (λ n. Err (refusal w.at n)) rest e h refl))
 
   pub walk_on : run_done bytes from w ≡ false → fault_at s bytes from w ≡ 0 → walk_from (suc k) s bytes from w ≡ rest
   unfolding walk_from
-  walk_on d e = rw d (sym (goes (λ n. Broken (refusal w.at n)) refl e refl))
+  walk_on d e = rw d (sym (goes (λ n. Err (refusal w.at n)) refl e refl))
 
   -- and back: a walk with a result is done here, or broken here, or goes on by the class of a record without fault
   pub by_record : {A : Type 0} (r : Walked) → walk_from (suc k) s bytes from w ≡ r
-      → (run_done bytes from w ≡ true → Whole w.seen w.found ≡ r → A)
-      → ((fault_at s bytes from w ≡ 0 → ⊥) → Broken (refusal w.at (fault_at s bytes from w)) ≡ r → A)
+      → (run_done bytes from w ≡ true → whole w.seen w.found ≡ r → A)
+      → ((fault_at s bytes from w ≡ 0 → ⊥) → Err (refusal w.at (fault_at s bytes from w)) ≡ r → A)
       → (Clear s bytes from w here → (row_for here).class ≡ StartRecord → walk_from k s bytes from (after_start here w) ≡ r → A)
       → (Clear s bytes from w here → (row_for here).class ≡ FormulaRecord → walk_from k s bytes from (after_formula here w) ≡ r → A)
       → (Clear s bytes from w here → (row_for here).class ≡ EndRecord → ending w (w.at + length here) (length bytes) ≡ r → A) → A
@@ -110,7 +109,7 @@ module _ (s : ℕ) (bytes : List ℕ) (from : ℕ) (w : Walk) (k : ℕ) where
       on x Unknown q p = absurd (known x q)
 
       at : (d : Bool) → run_done bytes from w ≡ d → (t : Bool) → eqb (fault_at s bytes from w) 0 ≡ t
-          → cond d (Whole w.seen w.found) (cond t rest (Broken (refusal w.at (fault_at s bytes from w)))) ≡ r → A
+          → cond d (whole w.seen w.found) (cond t rest (Err (refusal w.at (fault_at s bytes from w)))) ≡ r → A
       at true d t q p = done d p
       at false d true q p = on (clear s bytes from w (eqb-true _ _ q)) (row_for here).class refl p
       at false d false q p = broken (eqb-false _ _ q) p

@@ -1,23 +1,23 @@
 -- A stretch of formula records, one behind the other: the walk goes past each, and is then where the next record stands.
-use Rattle.whole.proofs.Basics.{◌≡◌, ◌∙◌, refl, sym, ap, false, cond, List, [], ◌∷◌, ◌++◌, append_assoc, ℕ, suc, zero, ◌+◌, ◌-◌, ◌≤◌, arith, eqb, length, length-append, eq-eqb, ne_eqb, le-ltb}
+use Rattle.whole.proofs.Basics.{◌≡◌, ◌∙◌, refl, sym, ap, false, cond, List, [], ◌∷◌, ◌++◌, append_assoc, ℕ, suc, zero, ◌+◌, ◌-◌, ◌≤◌, arith, length, length-append, eq-eqb, ne_eqb, le-ltb}
 use native.Mathlib.Nat.{zero-add}
 use Rattle.table.specs.declared.Class.{Class}
 use Rattle.table.specs.declared.Class.TheVariants.{FormulaRecord}
 use Rattle.layout.specs.Fields.{row_for, formula_number}
-use Rattle.faults.specs.Guard.{or_else, refusal}
+use Rattle.refusal.specs.Guard.{or_else, refusal}
 use Rattle.faults.specs.Faults.{frame_fault, length_fault, order_fault}
 use Rattle.records.specs.Sheets.{RecordOf, FormulaBytes, EachFormula, Rising, in_line}
-use Rattle.walking.specs.Walking.{place_fault, class_fault, record_fault, record_here, fault_at, found_by, after_formula, onward, run_done, walk_from}
+use Rattle.walking.specs.Walking.{place_fault, class_fault, record_fault, record_here, fault_at, is_asked, found_by, after_formula, onward, run_done, walk_from}
 use Rattle.walking.specs.Refused.{next_number}
 use Rattle.walking.specs.declared.Walk.{Walk}
-use Rattle.walking.specs.declared.Walked.TheVariants.{Broken}
 use Rattle.walking.proofs.Clear.{walk_broken, walk_on}
 use Rattle.walking.proofs.Records.{frame_there, bytes_there}
+use Rattle.std.specs.Prelude.{Err, Option, Some}
 
 -- the place that a walk notes on its way over formulas
-abbrev pub place_in : ℕ → ℕ → ℕ → List (List ℕ) → ℕ
+abbrev pub place_in : Option ℕ → ℕ → Option ℕ → List (List ℕ) → Option ℕ
 place_in asked at found [] = found
-place_in asked at found (b ∷ bs) = place_in asked (at + length b) (cond (eqb (formula_number b) asked) at found) bs
+place_in asked at found (b ∷ bs) = place_in asked (at + length b) (cond (is_asked asked (formula_number b)) (Some at) found) bs
 
 -- the walk behind them
 unfoldable pub after_all : List (List ℕ) → Walk → Walk
@@ -60,7 +60,7 @@ module _ (s : ℕ) (bytes : List ℕ) (from : ℕ) where
       ∙ ap (λ (j : Class). onward (walk_from n s bytes from) j b w (length bytes)) r.class
 
   pub stops_at : (before b after : List ℕ) (w : Walk) (n : ℕ) → 8 ≤ length b → bytes ≡ before ++ (b ++ after) → w.at ≡ from + length before → (fault_at s bytes from w ≡ 0 → ⊥)
-      → walk_from (suc n) s bytes from w ≡ Broken (refusal w.at (fault_at s bytes from w))
+      → walk_from (suc n) s bytes from w ≡ Err (refusal w.at (fault_at s bytes from w))
   stops_at before b after w n l q a f = walk_broken s bytes from w n (not_done before b after w q a l) refl f
 
   -- a formula may stand anywhere but at 0

@@ -13,13 +13,14 @@ use Rattle.walking.specs.Walking.{begin, record_here, after_start, after_formula
 use Rattle.walking.specs.declared.Walk.{Walk}
 use Rattle.walking.proofs.Classes.{start_class, end_class, formula_class}
 use Rattle.walking.proofs.Clear.{Clear, clear, opened, moved, walk_on}
+use Rattle.std.specs.Prelude.{Option}
 
 -- a run may have 64 records
-pub run_room : (from asked : ℕ) → (begin (suc from) asked).count ≡ 64
+pub run_room : (from : ℕ) (asked : Option ℕ) → (begin (suc from) asked).count ≡ 64
 unfolding start_row first_row rows
 run_room from asked = refl
 
-pub record Going (s : ℕ) (bytes : List ℕ) (from asked : ℕ) (w : Walk) : Type 0 where
+pub record Going (s : ℕ) (bytes : List ℕ) (from : ℕ) (asked : Option ℕ) (w : Walk) : Type 0 where
   pub standing : Standing bytes from w
   pub near : from ≤ 120
   pub seen : w.seen ≤ w.count
@@ -31,7 +32,7 @@ pub record Going (s : ℕ) (bytes : List ℕ) (from asked : ℕ) (w : Walk) : Ty
   pub first : w.at ≡ 0 → 66 ≤ left
   pub rest : walk_of s bytes from asked ≡ walk_from left s bytes from w
 
-pub starts : (s : ℕ) (bytes : List ℕ) (from asked : ℕ) → Walkable s from → Going s bytes from asked (begin from asked)
+pub starts : (s : ℕ) (bytes : List ℕ) (from : ℕ) (asked : Option ℕ) → Walkable s from → Going s bytes from asked (begin from asked)
 unfolding walk_of
 starts s bytes zero asked h =
     record { standing = record { begun = omega arith; within = omega arith }; near = h.near; seen = omega arith; count = omega arith; scale = λ n. absurd (n refl); left = 66; enough = omega arith; first = λ z. omega arith; rest = refl }
@@ -39,18 +40,18 @@ starts s bytes (suc n) asked h =
     record { standing = record { begun = omega arith; within = omega arith }; near = h.near; seen = omega arith; count = omega (arith, run_room n asked); scale = λ q. h.scale (λ z. omega arith); left = 66; enough = omega arith; first = λ z. omega arith; rest = refl }
 
 -- one record at least may come
-pub rest_is : {s : ℕ} {bytes : List ℕ} {from asked : ℕ} {w : Walk} (g : Going s bytes from asked w) → walk_of s bytes from asked ≡ walk_from (suc (g.left - 1)) s bytes from w
+pub rest_is : {s : ℕ} {bytes : List ℕ} {from : ℕ} {asked : Option ℕ} {w : Walk} (g : Going s bytes from asked w) → walk_of s bytes from asked ≡ walk_from (suc (g.left - 1)) s bytes from w
 rest_is {s = s} {bytes = bytes} {from = from} {w = w} g =
     let some : g.left ≡ suc (g.left - 1) = omega (arith, g.enough, g.seen, g.count) in
     g.rest ∙ ap (λ (k : ℕ). walk_from k s bytes from w) some
 
 -- the walk stands at a record without fault
-pub record Fine (s : ℕ) (bytes : List ℕ) (from asked : ℕ) (w : Walk) : Type 0 where
+pub record Fine (s : ℕ) (bytes : List ℕ) (from : ℕ) (asked : Option ℕ) (w : Walk) : Type 0 where
   pub going : Going s bytes from asked w
   pub not_done : run_done bytes from w ≡ false
   pub no_fault : fault_at s bytes from w ≡ 0
 
-module _ {s : ℕ} {bytes : List ℕ} {from asked : ℕ} {w : Walk} (h : Fine s bytes from asked w) where
+module _ {s : ℕ} {bytes : List ℕ} {from : ℕ} {asked : Option ℕ} {w : Walk} (h : Fine s bytes from asked w) where
   abbrev pub here : List ℕ
   here = record_here bytes from w
 
@@ -92,6 +93,10 @@ module _ {s : ℕ} {bytes : List ℕ} {from asked : ℕ} {w : Walk} (h : Fine s 
         },
         omega (arith, t.begun, o.0, long, frame.least, frame.some, frame.whole),
       )
+
+  -- a formula does not stand first
+  pub behind_first : (code_of here ≡ 0x0001 → ⊥) → (code_of here ≡ 0xffff → ⊥) → 0 < w.at
+  behind_first n m = let f = moved tests (formula_class from (code_of here) w.at n m tests.place) in omega (arith, f.0)
 
   -- neither a start nor an end is a formula, where it stands
   pub past_formula : {v : Walk} → v ≡ after_formula here w → (code_of here ≡ 0x0001 → ⊥) → (code_of here ≡ 0xffff → ⊥) → Past v

@@ -5,15 +5,14 @@ use Rattle.table.specs.declared.Class.{Class}
 use Rattle.table.specs.declared.Class.TheVariants.{StartRecord, FormulaRecord, EndRecord, Unknown}
 use Rattle.table.specs.declared.Row.{Row}
 use Rattle.layout.specs.Fields.{row_for, count_of, formula_number, shape_of, lo_of, hi_of, words_of}
-use Rattle.faults.specs.Guard.{guard, refusal}
+use Rattle.refusal.specs.Guard.{guard, refusal}
 use Rattle.faults.specs.Refusals.{OneOf, record_refusals, sheet_refusals}
 use Rattle.faults.proofs.FaultSets.{among, one_of, Fault, none, test, first, frame_set, length-set, start-set, scale-set, order_set, end_set}
 use Rattle.records.proofs.ValueSets.{value_set}
-use Rattle.walking.specs.Walking.{place_fault, class_fault, record_fault, record_here, fault_at, begin, ending, onward, run_done, walk_from, walk_of}
+use Rattle.walking.specs.Walking.{place_fault, class_fault, record_fault, record_here, fault_at, begin, ending, onward, run_done, walk_from, walk_of, Walked, whole}
 use Rattle.walking.specs.declared.Walk.{Walk}
-use Rattle.walking.specs.declared.Walked.{Walked}
-use Rattle.walking.specs.declared.Walked.TheVariants.{Whole, Broken}
 use Rattle.walking.proofs.Clear.{clear, closed}
+use Rattle.std.specs.Prelude.{Err, Ok, Option}
 
 -- the refusals of a sheet, from 0, and of a run, from behind a start
 abbrev pub refusals_from : ℕ → List ℕ
@@ -53,18 +52,18 @@ fault s bytes from w =
 -- ---- so no walk is broken by another number
 
 abbrev pub Numbered : ℕ → Walked → Type 0
-Numbered from (Whole c k) = Unit
-Numbered from (Broken r) = OneOf (refusals_from from) r.number
+Numbered from (Ok w) = Unit
+Numbered from (Err r) = OneOf (refusals_from from) r.number
 
 -- a record's refusal is one of a sheet's and of a run's
 of_both : (from n : ℕ) → OneOf record_refusals n → OneOf (refusals_from from) n
 of_both zero n h = inr h
 of_both (suc f) n h = h
 
-guarded : (from f at : ℕ) (x : Walked) → of_record f → (f ≡ 0 → Numbered from x) → Numbered from (guard f (λ n. Broken (refusal at n)) x)
+guarded : (from f at : ℕ) (x : Walked) → of_record f → (f ≡ 0 → Numbered from x) → Numbered from (guard f (λ n. Err (refusal at n)) x)
 guarded from f at x h k = go (eqb f 0) refl h
   where
-    go : (b : Bool) → eqb f 0 ≡ b → of_record f → Numbered from (cond b x (Broken (refusal at f)))
+    go : (b : Bool) → eqb f 0 ≡ b → of_record f → Numbered from (cond b x (Err (refusal at f)))
     go true e h = k (eqb-true f 0 e)
     go false e (inl z) = absurd (eqb-false f 0 e z)
     go false e (inr h) = of_both from f h
@@ -73,7 +72,7 @@ end : (from : ℕ) (w : Walk) (place n : ℕ) → from ≡ 0 → Numbered from (
 unfolding ending
 end zero w place n z = go (ltb place n)
   where
-    go : (b : Bool) → Numbered 0 (cond b (Broken (refusal place 9)) (Whole w.count w.found))
+    go : (b : Bool) → Numbered 0 (cond b (Err (refusal place 9)) (whole w.count w.found))
     go true = one_of sheet_refusals 9 tt
     go false = tt
 end (suc f) w place n z = absurd (let x : ◌≡◌ {A = ℕ} 0 1 = cc in omega arith)
@@ -85,7 +84,7 @@ past s bytes from next h w z FormulaRecord e = h _
 past s bytes from next h w z EndRecord e = end from w _ (length bytes) (closed (clear s bytes from w z) e).1
 past s bytes from next h w z Unknown e = of_both from 3 (one_of record_refusals 3 tt)
 
-done_or : (from : ℕ) (t : Bool) (w : Walk) (x : Walked) → Numbered from x → Numbered from (cond t (Whole w.seen w.found) x)
+done_or : (from : ℕ) (t : Bool) (w : Walk) (x : Walked) → Numbered from x → Numbered from (cond t (whole w.seen w.found) x)
 done_or from true w x h = tt
 done_or from false w x h = h
 
@@ -97,6 +96,6 @@ walks (suc k) s bytes from w =
     (guarded from (fault_at s bytes from w) w.at _ (fault s bytes from w)
     (λ z. past s bytes from (walk_from k s bytes from) (walks k s bytes from) w z (row_for (record_here bytes from w)).class refl))
 
-pub numbered : (s : ℕ) (bytes : List ℕ) (from asked : ℕ) → Numbered from (walk_of s bytes from asked)
+pub numbered : (s : ℕ) (bytes : List ℕ) (from : ℕ) (asked : Option ℕ) → Numbered from (walk_of s bytes from asked)
 unfolding walk_of
 numbered s bytes from asked = walks 66 s bytes from (begin from asked)

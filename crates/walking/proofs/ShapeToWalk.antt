@@ -4,21 +4,20 @@ use Rattle.word.specs.Words.{Scale}
 use Rattle.table.specs.declared.Class.TheVariants.{StartRecord, EndRecord}
 use Rattle.table.proofs.Rule.{ruled}
 use Rattle.layout.specs.Fields.{code_of, row_for, count_of}
-use Rattle.faults.specs.Guard.{refusal}
+use Rattle.refusal.specs.Guard.{refusal}
 use Rattle.faults.specs.Faults.{outside, start_fault, end_fault}
 use Rattle.faults.proofs.ScaleLaws.{no_scale_fault}
 use Rattle.records.specs.Sheets.{RecordOf, in_line, SheetOf, RunOf}
-use Rattle.walking.specs.Walking.{begin, after_start, ending, walk_from, walk_of}
+use Rattle.walking.specs.Walking.{begin, after_start, ending, walk_from, walk_of, Walked, whole}
 use Rattle.walking.specs.declared.Walk.{Walk}
-use Rattle.walking.specs.declared.Walked.{Walked}
-use Rattle.walking.specs.declared.Walked.TheVariants.{Whole, Broken}
 use Rattle.walking.proofs.Clear.{walk_done}
 use Rattle.walking.proofs.Going.{run_room}
 use Rattle.walking.proofs.Formulas.{place_in, after_all, behind, goes_on, past_all}
+use Rattle.std.specs.Prelude.{Err, Option, None}
 
 -- what the end record gives, with n bytes in all
-abbrev pub closing : ℕ → ℕ → ℕ → ℕ → Walked
-closing c k place n = cond (ltb place n) (Broken (refusal place 9)) (Whole c k)
+abbrev pub closing : ℕ → Option ℕ → ℕ → ℕ → Walked
+closing c k place n = cond (ltb place n) (Err (refusal place 9)) (whole c k)
 
 start_fine : (b : List ℕ) (c : ℕ) → (row_for b).class ≡ StartRecord → 1 ≤ c → c ≤ 64 → start_fault (row_for b) c ≡ 0
 unfolding start_fault outside
@@ -26,7 +25,7 @@ start_fine b c e l m = rw ((ruled (code_of b)).counted, e) (simp (le-ltb c 1 l, 
 
 module _ (s : ℕ) (bytes : List ℕ) where
   -- past the start, at 0
-  pub past_start : (b after : List ℕ) (asked k : ℕ) → bytes ≡ b ++ after → RecordOf StartRecord b → 1 ≤ count_of b → count_of b ≤ 64 → Scale s
+  pub past_start : (b after : List ℕ) (asked : Option ℕ) (k : ℕ) → bytes ≡ b ++ after → RecordOf StartRecord b → 1 ≤ count_of b → count_of b ≤ 64 → Scale s
       → walk_from (suc k) s bytes 0 (begin 0 asked) ≡ walk_from k s bytes 0 (after_start b (begin 0 asked))
   past_start b after asked k q r l m h =
       goes_on s bytes 0 [] b after StartRecord (begin 0 asked) k r q refl refl (rw (eq-eqb _ _ (start_fine b (count_of b) r.class l m)) (no_scale_fault s h))
@@ -39,7 +38,7 @@ module _ (s : ℕ) (bytes : List ℕ) where
       goes_on s bytes 0 before b after EndRecord w k r q a (simp (ne_eqb w.at 0 z)) (simp (eq-eqb w.seen w.count m, eq-eqb (count_of b) w.count n))
 
 -- ---- the whole way over a sheet, with anything behind it
-module _ (s c : ℕ) (bytes after : List ℕ) (h : SheetOf s c bytes) (asked : ℕ) where
+module _ (s c : ℕ) (bytes after : List ℕ) (h : SheetOf s c bytes) (asked : Option ℕ) where
   all : List ℕ
   all = bytes ++ after
 
@@ -60,7 +59,7 @@ module _ (s c : ℕ) (bytes after : List ℕ) (h : SheetOf s c bytes) (asked : �
   long : length bytes ≡ length h.start + length (in_line h.formulas) + length h.finish
   long = ap length h.whole ∙ omega (arith, length-append h.start (in_line h.formulas ++ h.finish), length-append (in_line h.formulas) h.finish)
 
-  pub walked : walk_of s (bytes ++ after) 0 asked ≡ closing c (place_in asked (length h.start) 0 h.formulas) (length bytes) (length bytes + length after)
+  pub walked : walk_of s (bytes ++ after) 0 asked ≡ closing c (place_in asked (length h.start) None h.formulas) (length bytes) (length bytes + length after)
   unfolding walk_of all front
   walked =
       let b = h.start in
@@ -80,7 +79,7 @@ module _ (s c : ℕ) (bytes after : List ℕ) (h : SheetOf s c bytes) (asked : �
       ∙ rw (count, d.found, place, size) refl
 
 -- ---- and over a run
-pub run_walked_lem : (s c : ℕ) (bytes : List ℕ) (h : RunOf s c bytes) (from asked : ℕ) → walk_of s bytes (suc from) asked ≡ Whole c (place_in asked (suc from) 0 h.formulas)
+pub run_walked_lem : (s c : ℕ) (bytes : List ℕ) (h : RunOf s c bytes) (from : ℕ) (asked : Option ℕ) → walk_of s bytes (suc from) asked ≡ whole c (place_in asked (suc from) None h.formulas)
 unfolding walk_of
 run_walked_lem s c bytes h from asked =
     let fs = h.formulas in

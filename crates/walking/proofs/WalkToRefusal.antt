@@ -7,18 +7,18 @@ use Rattle.table.specs.declared.Class.{Class}
 use Rattle.table.specs.declared.Class.TheVariants.{StartRecord, FormulaRecord, EndRecord, Unknown}
 use Rattle.table.specs.declared.Row.{Row}
 use Rattle.layout.specs.Fields.{bytes_at, row_for, count_of}
-use Rattle.faults.specs.Guard.{refusal}
+use Rattle.refusal.specs.Guard.{refusal}
 use Rattle.records.specs.Sheets.{RecordOf, EachFormula, Rising, in_line}
-use Rattle.faults.specs.declared.Refusal.{Refusal}
-use Rattle.walking.specs.Walking.{walk, begin, class_fault, record_fault, record_here, fault_at, after_start, after_formula, ending, walk_from, walk_of}
+use Rattle.refusal.specs.declared.Refusal.{Refusal}
+use Rattle.walking.specs.Walking.{walk, begin, class_fault, record_fault, record_here, fault_at, after_start, after_formula, ending, walk_from, walk_of, whole}
 use Rattle.walking.specs.Refused.{next_number, fault_there, BehindFormulas, BehindTheEnd, RefusedAt}
 use Rattle.walking.specs.declared.Walk.{Walk}
-use Rattle.walking.specs.declared.Walked.TheVariants.{Whole, Broken}
 use Rattle.walking.proofs.Clear.{Clear, opened, moved, closed, by_record}
 use Rattle.walking.proofs.Records.{record_at, split_at}
+use Rattle.std.specs.Prelude.{Err, Option, None}
 
 -- ---- the fault at a walk's place, whatever number is asked for
-class_fault_lem : (s : ℕ) (k : Class) (r : Row) (b : List ℕ) (w : Walk) → class_fault s k r b (walk w.at w.count w.seen w.next 0 0) ≡ class_fault s k r b w
+class_fault_lem : (s : ℕ) (k : Class) (r : Row) (b : List ℕ) (w : Walk) → class_fault s k r b (walk w.at w.count w.seen w.next None None) ≡ class_fault s k r b w
 class_fault_lem s StartRecord r b w = refl
 class_fault_lem s FormulaRecord r b w = refl
 class_fault_lem s EndRecord r b w = refl
@@ -59,11 +59,11 @@ record Tail (s : ℕ) (bytes : List ℕ) (w : Walk) (r : Refusal) : Type 0 where
   ends : Fault s bytes (w.at + length (in_line formulas)) w.count (w.seen + length formulas) (next_number w.next formulas) r ⊎ Ended (w.at + length (in_line formulas)) w.count (w.seen + length formulas) after r
 
 -- an end that is refused has bytes behind it
-refused_end : (w : Walk) (e n : ℕ) (r : Refusal) → ending w e n ≡ Broken r → (e < n) × (r ≡ refusal e 9)
+refused_end : (w : Walk) (e n : ℕ) (r : Refusal) → ending w e n ≡ Err r → (e < n) × (r ≡ refusal e 9)
 unfolding ending
 refused_end w e n r p = go (ltb e n) refl p
   where
-    go : (b : Bool) → ltb e n ≡ b → cond b (Broken (refusal e 9)) (Whole w.count w.found) ≡ Broken r → (e < n) × (r ≡ refusal e 9)
+    go : (b : Bool) → ltb e n ≡ b → cond b (Err (refusal e 9)) (whole w.count w.found) ≡ Err r → (e < n) × (r ≡ refusal e 9)
     go true h q = (ltb-true e n h, cc)
     go false h q = absurd (let x : ◌≡◌ {A = ℕ} 0 1 = cc in omega arith)
 
@@ -83,7 +83,7 @@ module _ (s : ℕ) (bytes : List ℕ) (r : Refusal) where
         ends = inl (subst (λ (x : ℕ). Fault s bytes x w.count (w.seen + length {A = List ℕ} []) w.next r) far (subst (λ (y : ℕ). Fault s bytes w.at w.count y w.next r) many f));
       }
 
-  at_end : (w : Walk) → Clear s bytes 0 w (record_here bytes 0 w) → (row_for (record_here bytes 0 w)).class ≡ EndRecord → ending w (w.at + length (record_here bytes 0 w)) (length bytes) ≡ Broken r → Tail s bytes w r
+  at_end : (w : Walk) → Clear s bytes 0 w (record_here bytes 0 w) → (row_for (record_here bytes 0 w)).class ≡ EndRecord → ending w (w.at + length (record_here bytes 0 w)) (length bytes) ≡ Err r → Tail s bytes w r
   at_end w x e p =
       let b = record_here bytes 0 w in
       let n = closed x e in
@@ -125,16 +125,16 @@ module _ (s : ℕ) (bytes : List ℕ) (r : Refusal) where
         ends = rw (far, many) at t.ends;
       }
 
-  tail : (n : ℕ) (w : Walk) → (w.at ≡ 0 → ⊥) → w.seen ≤ w.count → w.count < n + w.seen → walk_from n s bytes 0 w ≡ Broken r → Tail s bytes w r
+  tail : (n : ℕ) (w : Walk) → (w.at ≡ 0 → ⊥) → w.seen ≤ w.count → w.count < n + w.seen → walk_from n s bytes 0 w ≡ Err r → Tail s bytes w r
   tail zero w a m l e = absurd (omega (arith, m, l))
   tail (suc n) w a m l e =
       let b = record_here bytes 0 w in
-      by_record s bytes 0 w n (Broken r) e (λ d q. absurd (let z : ◌≡◌ {A = ℕ} 0 1 = cc in omega arith)) (λ f q. at_fault w m f cc) (λ x q p. absurd (a (opened x q).0))
+      by_record s bytes 0 w n (Err r) e (λ d q. absurd (let z : ◌≡◌ {A = ℕ} 0 1 = cc in omega arith)) (λ f q. at_fault w m f cc) (λ x q p. absurd (a (opened x q).0))
       (λ x q p. at_formula w x q (tail n (after_formula b w) (λ z. a (omega (arith, z))) (omega (arith, m, (moved x q).1)) (omega (arith, l)) p))
       (at_end w)
 
   -- ---- from the start on
-  module _ (asked : ℕ) (x : Clear s bytes 0 (begin 0 asked) (bytes_at bytes 0)) (e : (row_for (bytes_at bytes 0)).class ≡ StartRecord) where
+  module _ (asked : Option ℕ) (x : Clear s bytes 0 (begin 0 asked) (bytes_at bytes 0)) (e : (row_for (bytes_at bytes 0)).class ≡ StartRecord) where
     abbrev b : List ℕ
     b = bytes_at bytes 0
 
@@ -142,8 +142,8 @@ module _ (s : ℕ) (bytes : List ℕ) (r : Refusal) where
     opens = let o = opened x e in (record_at bytes 0 x.frame StartRecord e x.size, o.1, o.2)
 
     module _ (t : Tail s bytes (after_start b (begin 0 asked)) r) where
-      whole : bytes ≡ b ++ (in_line t.formulas ++ t.after)
-      whole =
+      parted : bytes ≡ b ++ (in_line t.formulas ++ t.after)
+      parted =
           let i : length b ≡ length b - 0 = omega arith in
           rw (zero-add (length b)) at (split_at bytes 0 x.frame) ∙ ap (λ (y : List ℕ). b ++ y) (ap (λ (j : ℕ). drop j bytes) i ∙ t.rest)
 
@@ -153,7 +153,7 @@ module _ (s : ℕ) (bytes : List ℕ) (r : Refusal) where
             start = b;
             formulas = t.formulas;
             after = t.after;
-            whole = whole;
+            whole = parted;
             scale = (opened x e).3;
             opens = opens;
             room = omega (arith, t.room);
@@ -173,7 +173,7 @@ module _ (s : ℕ) (bytes : List ℕ) (r : Refusal) where
             sheet = sheet;
             after = d.behind;
             whole =
-                whole
+                parted
                 ∙ ap (λ (y : List ℕ). b ++ (in_line t.formulas ++ y)) d.whole
                 ∙ ap (λ (y : List ℕ). b ++ y) (sym (append_assoc (in_line t.formulas) d.finish d.behind))
                 ∙ sym (append_assoc b (in_line t.formulas ++ d.finish) d.behind);
@@ -201,16 +201,16 @@ module _ (s : ℕ) (bytes : List ℕ) (r : Refusal) where
           at (inl f) = inr (inl (at_formulas f))
           at (inr d) = inr (inr (behind_end d))
 
-  pub refused_at : (asked : ℕ) → walk_of s bytes 0 asked ≡ Broken r → RefusedAt s bytes r
+  pub refused_at : (asked : Option ℕ) → walk_of s bytes 0 asked ≡ Err r → RefusedAt s bytes r
   unfolding walk_of
-  refused_at asked e = by_record s bytes 0 (begin 0 asked) 65 (Broken r) e (λ d q. absurd (let z : ◌≡◌ {A = ℕ} 0 1 = cc in omega arith)) (λ f q. first f cc) started (λ x q p. absurd ((moved x q).0 refl)) (λ x q p. absurd ((closed x q).0 refl))
+  refused_at asked e = by_record s bytes 0 (begin 0 asked) 65 (Err r) e (λ d q. absurd (let z : ◌≡◌ {A = ℕ} 0 1 = cc in omega arith)) (λ f q. first f cc) started (λ x q p. absurd ((moved x q).0 refl)) (λ x q p. absurd ((closed x q).0 refl))
     where
       first : (fault_at s bytes 0 (begin 0 asked) ≡ 0 → ⊥) → r ≡ refusal 0 (fault_at s bytes 0 (begin 0 asked)) → RefusedAt s bytes r
       first f q =
           let n = ap (λ (y : Refusal). y.number) q in
           inl (record { place = ap (λ (y : Refusal). y.place) q; fault = there s bytes (begin 0 asked) ∙ sym n; some = λ z. f (sym n ∙ z) })
 
-      started : Clear s bytes 0 (begin 0 asked) (bytes_at bytes 0) → (row_for (bytes_at bytes 0)).class ≡ StartRecord → walk_from 65 s bytes 0 (after_start (bytes_at bytes 0) (begin 0 asked)) ≡ Broken r → RefusedAt s bytes r
+      started : Clear s bytes 0 (begin 0 asked) (bytes_at bytes 0) → (row_for (bytes_at bytes 0)).class ≡ StartRecord → walk_from 65 s bytes 0 (after_start (bytes_at bytes 0) (begin 0 asked)) ≡ Err r → RefusedAt s bytes r
       started x q p =
           let o = opens asked x q in
           behind_start asked x q (tail 65 (after_start (bytes_at bytes 0) (begin 0 asked)) (λ z. omega (arith, z, o.0.least)) (omega arith) (omega (arith, o.2)) p)

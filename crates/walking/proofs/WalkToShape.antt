@@ -5,15 +5,15 @@ use lib.ListN.{drop_of_length-le}
 use Rattle.table.specs.declared.Class.TheVariants.{StartRecord, FormulaRecord, EndRecord}
 use Rattle.layout.specs.Fields.{bytes_at, row_for, count_of}
 use Rattle.layout.proofs.Cut.{length-bytes_at}
-use Rattle.faults.specs.Guard.{refusal}
+use Rattle.refusal.specs.Guard.{refusal}
 use Rattle.faults.proofs.Frames.{framed, reaches}
 use Rattle.records.specs.Sheets.{RecordOf, EachFormula, Rising, in_line, SheetOf, RunOf}
-use Rattle.walking.specs.Walking.{begin, record_here, after_start, after_formula, ending, run_done, walk_from, walk_of}
+use Rattle.walking.specs.Walking.{begin, record_here, after_start, after_formula, ending, run_done, walk_from, walk_of, Walked, whole}
 use Rattle.walking.specs.declared.Walk.{Walk}
-use Rattle.walking.specs.declared.Walked.TheVariants.{Whole, Broken}
 use Rattle.walking.proofs.Clear.{Clear, opened, moved, closed, by_record}
 use Rattle.walking.proofs.Records.{record_at, split_at}
 use Rattle.walking.proofs.Going.{run_room}
+use Rattle.std.specs.Prelude.{Err, Ok, Option}
 
 -- how it ends: a sheet with an end record of the count, behind as many formulas; a run with its last byte
 abbrev Ends : ℕ → ℕ → ℕ → ℕ → List ℕ → Type 0
@@ -30,16 +30,21 @@ record Tail (s : ℕ) (bytes : List ℕ) (from : ℕ) (w : Walk) (c : ℕ) : Typ
   rising : Rising w.next formulas
   ends : Ends from (w.seen + length formulas) w.count c finish
 
+-- the count of a walk that ends well
+abbrev counted : Walked → ℕ
+counted (Ok w) = w.count
+counted (Err r) = 0
+
 -- an end that is whole has nothing behind it
-last : (w : Walk) (e n c k : ℕ) → ending w e n ≡ Whole c k → (n ≤ e) × (w.count ≡ c)
+last : (w : Walk) (e n c : ℕ) (k : Option ℕ) → ending w e n ≡ whole c k → (n ≤ e) × (w.count ≡ c)
 unfolding ending
 last w e n c k p = go (ltb e n) refl p
   where
-    go : (b : Bool) → ltb e n ≡ b → cond b (Broken (refusal e 9)) (Whole w.count w.found) ≡ Whole c k → (n ≤ e) × (w.count ≡ c)
+    go : (b : Bool) → ltb e n ≡ b → cond b (Err (refusal e 9)) (whole w.count w.found) ≡ whole c k → (n ≤ e) × (w.count ≡ c)
     go true h q = absurd (let x : ◌≡◌ {A = ℕ} 0 1 = cc in omega arith)
-    go false h q = (ltb-false e n h, cc)
+    go false h q = (ltb-false e n h, ap counted q)
 
-module _ (s : ℕ) (bytes : List ℕ) (from c k : ℕ) where
+module _ (s : ℕ) (bytes : List ℕ) (from c : ℕ) (k : Option ℕ) where
   -- a run that is done
   run_end : (w : Walk) → w.seen ≤ w.count → run_done bytes from w ≡ true → w.seen ≡ c → Tail s bytes from w c
   run_end w l d e = by from d
@@ -58,7 +63,7 @@ module _ (s : ℕ) (bytes : List ℕ) (from c k : ℕ) where
           }
 
   -- an end record
-  at_end : (w : Walk) → from ≤ w.at → Clear s bytes from w (record_here bytes from w) → (row_for (record_here bytes from w)).class ≡ EndRecord → ending w (w.at + length (record_here bytes from w)) (length bytes) ≡ Whole c k → Tail s bytes from w c
+  at_end : (w : Walk) → from ≤ w.at → Clear s bytes from w (record_here bytes from w) → (row_for (record_here bytes from w)).class ≡ EndRecord → ending w (w.at + length (record_here bytes from w)) (length bytes) ≡ whole c k → Tail s bytes from w c
   at_end w l x e p =
       let b = record_here bytes from w in
       let m = closed x e in
@@ -95,18 +100,18 @@ module _ (s : ℕ) (bytes : List ℕ) (from c k : ℕ) where
         ends = let n : w.seen + 1 + length t.formulas ≡ w.seen + length (b ∷ t.formulas) = omega arith in subst (λ (j : ℕ). Ends from j w.count c t.finish) n t.ends;
       }
 
-  tail : (n : ℕ) (w : Walk) → (w.at ≡ 0 → ⊥) → from ≤ w.at → w.seen ≤ w.count → walk_from n s bytes from w ≡ Whole c k → Tail s bytes from w c
+  tail : (n : ℕ) (w : Walk) → (w.at ≡ 0 → ⊥) → from ≤ w.at → w.seen ≤ w.count → walk_from n s bytes from w ≡ whole c k → Tail s bytes from w c
   unfolding walk_from
   tail zero w a l m e = absurd (let z : ◌≡◌ {A = ℕ} 0 1 = cc in omega arith)
   tail (suc n) w a l m e =
       let b = record_here bytes from w in
-      by_record s bytes from w n (Whole c k) e (λ d q. run_end w m d cc) (λ n q. absurd (let z : ◌≡◌ {A = ℕ} 0 1 = cc in omega arith)) (λ x q p. absurd (a (opened x q).0))
+      by_record s bytes from w n (whole c k) e (λ d q. run_end w m d (ap counted q)) (λ n q. absurd (let z : ◌≡◌ {A = ℕ} 0 1 = cc in omega arith)) (λ x q p. absurd (a (opened x q).0))
       (λ x q p. at_formula w x l q (tail n (after_formula b w) (λ z. a (omega (arith, z))) (omega (arith, l)) (omega (arith, m, (moved x q).1)) p))
       (at_end w l)
 
 -- ---- of a sheet
-module _ (s : ℕ) (bytes : List ℕ) (c k asked : ℕ) where
-  opening : Clear s bytes 0 (begin 0 asked) (bytes_at bytes 0) → (row_for (bytes_at bytes 0)).class ≡ StartRecord → walk_from 65 s bytes 0 (after_start (bytes_at bytes 0) (begin 0 asked)) ≡ Whole c k → SheetOf s c bytes
+module _ (s : ℕ) (bytes : List ℕ) (c : ℕ) (k asked : Option ℕ) where
+  opening : Clear s bytes 0 (begin 0 asked) (bytes_at bytes 0) → (row_for (bytes_at bytes 0)).class ≡ StartRecord → walk_from 65 s bytes 0 (after_start (bytes_at bytes 0) (begin 0 asked)) ≡ whole c k → SheetOf s c bytes
   opening x e p =
       let b = bytes_at bytes 0 in
       let o = opened x e in
@@ -129,15 +134,15 @@ module _ (s : ℕ) (bytes : List ℕ) (c k asked : ℕ) where
         closes = (t.ends.0, t.ends.1);
       }
 
-  pub shape : walk_of s bytes 0 asked ≡ Whole c k → SheetOf s c bytes
+  pub shape : walk_of s bytes 0 asked ≡ whole c k → SheetOf s c bytes
   unfolding walk_of
   shape e =
-      by_record s bytes 0 (begin 0 asked) 65 (Whole c k) e (λ d q. absurd (let x : ◌≡◌ {A = ℕ} 0 1 = cc in omega arith)) (λ n q. absurd (let x : ◌≡◌ {A = ℕ} 0 1 = cc in omega arith)) opening
+      by_record s bytes 0 (begin 0 asked) 65 (whole c k) e (λ d q. absurd (let x : ◌≡◌ {A = ℕ} 0 1 = cc in omega arith)) (λ n q. absurd (let x : ◌≡◌ {A = ℕ} 0 1 = cc in omega arith)) opening
       (λ x q p. absurd ((moved x q).0 refl))
       (λ x q p. absurd ((closed x q).0 refl))
 
 -- ---- of a run
-pub run_shape : (s : ℕ) (bytes : List ℕ) (from c k asked : ℕ) → walk_of s bytes (suc from) asked ≡ Whole c k → RunOf s c bytes
+pub run_shape : (s : ℕ) (bytes : List ℕ) (from c : ℕ) (k asked : Option ℕ) → walk_of s bytes (suc from) asked ≡ whole c k → RunOf s c bytes
 unfolding walk_of
 run_shape s bytes from c k asked e =
     let t = tail s bytes (suc from) c k 66 (begin (suc from) asked) (λ z. omega (arith, z)) (omega arith) (omega arith) e in

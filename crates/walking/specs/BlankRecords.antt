@@ -7,10 +7,10 @@ use Rattle.formula.specs.Blank.{all_zero, blank_of}
 use Rattle.table.specs.declared.Class.TheVariants.{FormulaRecord}
 use Rattle.table.specs.Table.{rows, first_row, row_of, pieces_by}
 use Rattle.layout.specs.Fields.{row_for, formula_number, first_count, field_of, shape_of, lo_of, hi_of, words_of}
-use Rattle.faults.specs.Guard.{refusal}
+use Rattle.refusal.specs.Guard.{refusal}
 use Rattle.faults.specs.Faults.{outside, count_fault, size_fault, length_fault, interval_fault, words_fault, own_fault}
 use Rattle.faults.specs.Refusals.{OneOf, record_refusals}
-use Rattle.faults.specs.declared.Refusal.{Refusal}
+use Rattle.refusal.specs.declared.Refusal.{Refusal}
 use Rattle.records.specs.Sheets.{RecordOf, EachFormula, Rising, in_line}
 use Rattle.walking.specs.Refused.{next_number}
 

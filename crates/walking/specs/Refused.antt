@@ -1,12 +1,12 @@
 -- What a refusal's place says of a sheet's bytes, apart from the walk: all that stands before it is without fault, and what stands at it
 -- is not; for 9, a whole sheet ends there. The binary places are s.
-use Rattle.std.specs.Prelude.{ℕ, ◌+◌, ◌≤◌, ◌<◌, ◌≡◌, List, [], ◌∷◌, ◌++◌, ◌⊎◌, length}
+use Rattle.std.specs.Prelude.{ℕ, ◌+◌, ◌≤◌, ◌<◌, ◌≡◌, List, [], ◌∷◌, ◌++◌, ◌⊎◌, length, None}
 use Rattle.word.specs.Words.{Scale}
 use Rattle.table.specs.declared.Class.TheVariants.{StartRecord}
 use Rattle.layout.specs.Fields.{count_of, formula_number}
-use Rattle.faults.specs.Guard.{refusal}
+use Rattle.refusal.specs.Guard.{refusal}
 use Rattle.records.specs.Sheets.{RecordOf, EachFormula, Rising, in_line, SheetOf}
-use Rattle.faults.specs.declared.Refusal.{Refusal}
+use Rattle.refusal.specs.declared.Refusal.{Refusal}
 use Rattle.walking.specs.Walking.{walk, fault_at}
 
 -- the least number that may stand behind formulas of which the first may have n
@@ -16,7 +16,7 @@ next_number n (b ∷ bs) = next_number (formula_number b + 1) bs
 
 -- the first fault of what stands at a place, behind `seen` formulas of `count`, with numbers from `next` on
 abbrev pub fault_there : ℕ → List ℕ → ℕ → ℕ → ℕ → ℕ → ℕ
-fault_there s bytes place count seen next = fault_at s bytes 0 (walk place count seen next 0 0)
+fault_there s bytes place count seen next = fault_at s bytes 0 (walk place count seen next None None)
 
 -- the first record is at fault
 pub record AtTheStart (s : ℕ) (bytes : List ℕ) (r : Refusal) : Type 0 where

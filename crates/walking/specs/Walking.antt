@@ -1,7 +1,7 @@
 -- The walk, record after record: over a sheet, or over a run of formula records that a sheet is to be put around. `from` is the place of the
 -- first byte in the sheet: 0 for a sheet, which ends with an end record; behind a start for a run, which ends with its last byte.
 -- The binary places are s.
-use Rattle.std.specs.Prelude.{ℕ, zero, suc, ◌+◌, ◌-◌, ◌≤◌, ◌≡◌, refl, List, [], ◌∷◌, Bool, false, cond, ltb, eqb, length, replicate}
+use Rattle.std.specs.Prelude.{ℕ, zero, suc, ◌+◌, ◌-◌, ◌≤◌, ◌≡◌, refl, List, [], ◌∷◌, Bool, false, cond, ltb, eqb, length, replicate, Err, Result, Ok, Option, Some, None}
 use Rattle.word.specs.Words.{Scale}
 use Rattle.stored.specs.Numbers.{number2, number4}
 use Rattle.table.specs.declared.Class.{Class}
@@ -10,14 +10,15 @@ use Rattle.table.specs.declared.Row.{Row}
 use Rattle.table.specs.Table.{rows, first_row, row_of, pieces_by}
 use Rattle.table.specs.Codes.{start_row, end_row}
 use Rattle.layout.specs.Fields.{bytes_at, row_for, count_of, formula_number, first_count, field_of, shape_of}
-use Rattle.faults.specs.Guard.{guard, or_else, refusal}
+use Rattle.refusal.specs.Guard.{guard, or_else, refusal}
 use Rattle.faults.specs.Faults.{frame_fault, outside, count_fault, size_fault, length_fault, start_fault, scale_fault, order_fault, end_fault}
 use Rattle.records.specs.Records.{inner_fault, formula_fault, only_formula}
+pub use Rattle.walking.specs.Sought.{is_asked}
 use Rattle.walking.specs.declared.Walk.{Walk}
-use Rattle.walking.specs.declared.Walked.{Walked}
-use Rattle.walking.specs.declared.Walked.TheVariants.{Whole, Broken}
+use Rattle.refusal.specs.declared.Refusal.{Refusal}
+use Rattle.walking.specs.declared.Whole.{Whole}
 
-abbrev pub walk : ℕ → ℕ → ℕ → ℕ → ℕ → ℕ → Walk
+abbrev pub walk : ℕ → ℕ → ℕ → ℕ → Option ℕ → Option ℕ → Walk
 walk a c s n k f = record { at = a; count = c; seen = s; next = n; asked = k; found = f }
 
 -- ---- where it begins. A run may have as many records as the table lets a start say, 64
@@ -25,8 +26,8 @@ abbrev pub room_for : ℕ → ℕ
 room_for zero = 0
 room_for (suc n) = start_row.count.most
 
-abbrev pub begin : ℕ → ℕ → Walk
-begin from asked = walk from (room_for from) 0 0 asked 0
+abbrev pub begin : ℕ → Option ℕ → Walk
+begin from asked = walk from (room_for from) 0 0 asked None
 
 -- ---- at each record: kind and place (3). The first record must be a start, no later one may be; an end may stand anywhere after the
 -- start, but not in a run
@@ -79,26 +80,33 @@ fault_at s bytes from w =
 
 -- ---- past a record without fault. A start stands at 0
 abbrev pub after_start : List ℕ → Walk → Walk
-after_start b w = walk (length b) (count_of b) 0 0 w.asked 0
+after_start b w = walk (length b) (count_of b) 0 0 w.asked None
 
--- the place of the number asked for
-unfoldable pub found_by : Walk → ℕ → ℕ
-found_by w n = cond (eqb n w.asked) w.at w.found
+-- the place of the number asked for, if there is one
+unfoldable pub found_by : Walk → ℕ → Option ℕ
+found_by w n = cond (is_asked w.asked n) (Some w.at) w.found
 
 abbrev pub after_formula : List ℕ → Walk → Walk
 after_formula b w =
     walk (w.at + length b) w.count (w.seen + 1) (formula_number b + 1) w.asked (found_by w (formula_number b))
 
+-- ---- what a walk answers: the count, and the place of the number asked for; or a refusal
+abbrev pub Walked : Type 0
+Walked = Result Whole Refusal
+
+abbrev pub whole : ℕ → Option ℕ → Walked
+whole c k = Ok (record { count = c; found = k })
+
 -- after the end, 9: it gives the first byte too many as the place
 unfoldable pub ending : Walk → ℕ → ℕ → Walked
-ending w place n = cond (ltb place n) (Broken (refusal place 9)) (Whole w.count w.found)
+ending w place n = cond (ltb place n) (Err (refusal place 9)) (whole w.count w.found)
 
 -- by the class of the record (an unknown one is never without fault)
 abbrev pub onward : (Walk → Walked) → Class → List ℕ → Walk → ℕ → Walked
 onward next StartRecord b w n = next (after_start b w)
 onward next FormulaRecord b w n = next (after_formula b w)
 onward next EndRecord b w n = ending w (w.at + length b) n
-onward next Unknown b w n = Broken (refusal w.at 3)
+onward next Unknown b w n = Err (refusal w.at 3)
 
 -- ---- the walk. A run is whole at its last byte, with as many formulas as were seen
 abbrev pub run_done : List ℕ → ℕ → Walk → Bool
@@ -107,14 +115,14 @@ run_done bytes (suc n) w = eqb (w.at - suc n) (length bytes)
 
 -- k records at most; that there is one more is never met. Refusals 1 to 8 and 14 give the first byte of their record as the place
 unfoldable pub walk_from : ℕ → ℕ → List ℕ → ℕ → Walk → Walked
-walk_from zero s bytes from w = Broken (refusal w.at 4)
+walk_from zero s bytes from w = Err (refusal w.at 4)
 walk_from (suc k) s bytes from w =
-    cond (run_done bytes from w) (Whole w.seen w.found)
-    (guard (fault_at s bytes from w) (λ fault. Broken (refusal w.at fault))
+    cond (run_done bytes from w) (whole w.seen w.found)
+    (guard (fault_at s bytes from w) (λ fault. Err (refusal w.at fault))
     (onward (walk_from k s bytes from) (row_for (record_here bytes from w)).class (record_here bytes from w) w (length bytes)))
 
 -- a start, 64 formulas and an end are 66 records
-unfoldable pub walk_of : ℕ → List ℕ → ℕ → ℕ → Walked
+unfoldable pub walk_of : ℕ → List ℕ → ℕ → Option ℕ → Walked
 walk_of s bytes from asked = walk_from 66 s bytes from (begin from asked)
 
 -- ---- worked examples. A start and an end of so many bytes, with a count
@@ -126,13 +134,13 @@ closing n c = n ∷ 0 ∷ 0 ∷ 0 ∷ 255 ∷ 255 ∷ c ∷ 0 ∷ replicate (n -
 
 -- the walk behind a start of one formula, with so many seen
 abbrev behind : ℕ → Walk
-behind seen = walk 8 1 seen 0 0 0
+behind seen = walk 8 1 seen 0 None None
 
 -- 3 before 2: a start that is no first record, and an end that is; in their places 2
 kind_first :
     (record_fault 24 0 (row_of 0x0001) (starting 12 1) (behind 0) ≡ 3)
-    × (record_fault 24 0 (row_of 0x0001) (starting 12 1) (begin 0 0) ≡ 2)
-    × (record_fault 24 0 (row_of 0xffff) (closing 12 1) (begin 0 0) ≡ 3)
+    × (record_fault 24 0 (row_of 0x0001) (starting 12 1) (begin 0 None) ≡ 2)
+    × (record_fault 24 0 (row_of 0xffff) (closing 12 1) (begin 0 None) ≡ 3)
     × (record_fault 24 0 (row_of 0xffff) (closing 12 1) (behind 1) ≡ 2)
 unfolding rows first_row row_of number2 first_count field_of shape_of pieces_by outside count_fault size_fault length_fault start_fault end_fault scale_fault record_fault
 kind_first = (refl, refl, refl, refl)
@@ -146,9 +154,9 @@ unfolding rows first_row row_of number2 first_count field_of shape_of pieces_by 
 length_first = (refl, refl, refl)
 
 count_first :
-    (record_fault 24 0 (row_of 0x0001) (starting 8 64) (begin 0 0) ≡ 0)
-    × (record_fault 15 0 (row_of 0x0001) (starting 8 65) (begin 0 0) ≡ 4)
-    × (record_fault 15 0 (row_of 0x0001) (starting 8 64) (begin 0 0) ≡ 6)
+    (record_fault 24 0 (row_of 0x0001) (starting 8 64) (begin 0 None) ≡ 0)
+    × (record_fault 15 0 (row_of 0x0001) (starting 8 65) (begin 0 None) ≡ 4)
+    × (record_fault 15 0 (row_of 0x0001) (starting 8 64) (begin 0 None) ≡ 6)
 unfolding rows first_row row_of number2 first_count field_of shape_of pieces_by outside count_fault size_fault length_fault start_fault end_fault scale_fault record_fault
 count_first = (refl, refl, refl)
 
@@ -161,7 +169,7 @@ in_place :
     × (place_fault 8 EndRecord 8 ≡ 3)
 in_place = (refl, refl, refl, refl, refl)
 
-frame_first : (fault_at 24 (7 ∷ 0 ∷ 0 ∷ 0 ∷ 2 ∷ 0 ∷ 0 ∷ []) 0 (begin 0 0) ≡ 2) × (fault_at 24 (8 ∷ 0 ∷ 0 ∷ 0 ∷ 2 ∷ 0 ∷ 0 ∷ 0 ∷ []) 0 (begin 0 0) ≡ 3)
+frame_first : (fault_at 24 (7 ∷ 0 ∷ 0 ∷ 0 ∷ 2 ∷ 0 ∷ 0 ∷ []) 0 (begin 0 None) ≡ 2) × (fault_at 24 (8 ∷ 0 ∷ 0 ∷ 0 ∷ 2 ∷ 0 ∷ 0 ∷ 0 ∷ []) 0 (begin 0 None) ≡ 3)
 unfolding rows first_row row_of number2 number4 first_count field_of shape_of pieces_by outside count_fault size_fault length_fault frame_fault bytes_at record_fault fault_at
 frame_first = (refl, refl)
 
@@ -171,7 +179,7 @@ unfolding number2
 next_number_lem w = refl
 
 -- a run has room for 64 records, a sheet for as many as its start says
-room : ((begin 8 0).count ≡ 64) × ((begin 0 0).count ≡ 0)
+room : ((begin 8 None).count ≡ 64) × ((begin 0 None).count ≡ 0)
 unfolding rows first_row start_row
 room = (refl, refl)
 

@@ -21,6 +21,13 @@ pub struct Marked {
     pub loose: u64,
 }
 
+// An argument as a word, and whether nothing was rounded off to make it one.
+#[derive(Drop)]
+pub struct Argument {
+    pub word: i32,
+    pub exact: bool,
+}
+
 // M, the largest word.
 pub const LARGEST: u64 = 2147483647;
 
@@ -28,11 +35,7 @@ pub const LARGEST: u64 = 2147483647;
 pub fn magnitude(x: i32) -> u32
     ensures { result ≡ nat_abs x }
 {
-    if x < 0 {
-        (-(x as i64)) as u32
-    } else {
-        x as u32
-    }
+    x.unsigned_abs()
 }
 
 // m, negated where the sign is set: the one place where a 64-bit number's sign is taken off or put back.
@@ -119,6 +122,7 @@ pub fn quotient(a: i32, d: i32, s: u32) -> Rounding
 }
 
 // What is asked of the first factor is what callers have shown; the sum would fit without it.
+#[tactic(auto, unfolding(crate::specs::Rounded::rounded_up))]
 pub fn bound_product(a: u32, b: u32, s: u32) -> u64
     requires { Scale s × (a ≤ 2 ^ 31) }
     ensures { result ≡ bound_product s a b }
@@ -127,6 +131,7 @@ pub fn bound_product(a: u32, b: u32, s: u32) -> u64
     (n + (power_of_two(s) - 1)) >> (s as u64)
 }
 
+#[tactic(auto, unfolding(crate::specs::Rounded::rounded_up))]
 pub fn bound_quotient(a: u32, d: u32, s: u32) -> u64
     requires { Scale s × (0 < d) }
     ensures { result ≡ bound_quotient s a d }

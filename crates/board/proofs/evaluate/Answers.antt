@@ -1,34 +1,31 @@
 -- `board::evaluate` meets its contract: the answer of the record that stands at the place, or the place's refusal.
-use Rattle.whole.proofs.Basics.{◌≡◌, ◌∙◌, sym, to_z-of_z}
+use Rattle.whole.proofs.Basics.{◌∙◌, sym, to_z-of_z}
+use Rattle.std.proofs.lemmas.Result.{err_from_is_err_and}
 use Rattle.formula.specs.declared.Formula.{Formula}
-use Rattle.sheet.specs.Reader.{formula_place, FormulaStands}
-use Rattle.sheet.specs.declared.answers.Place.TheVariants.{At}
+use Rattle.sheet.specs.Reader.{FormulaStands}
 use Rattle.sheet.proofs.Places.{place_standing}
 use Rattle.answering.specs.Answering.{answer_at}
 use Rattle.board.proofs.ReadingLaws.{when_at, when_refused}
 use Rattle.board.proofs.evaluate.Goals as goal
-use Rattle.board.proofs.evaluate.Goals.{In-At}
+use Rattle.board.proofs.evaluate.Goals.{In_ok-place}
 
--- the place that was answered, and what stands there
-module _ (c : In-At) where
-  found : formula_place c.args.places c.args.s.now c.args.number ≡ At c.in-At.place
-  found = sym c.formula_place.ensures ∙ c.in-At.is
+-- what stands at the place that was answered
+standing : (c : In_ok-place) → FormulaStands c.args.places c.args.s.now c.in_ok-place.place
+standing c = place_standing _ _ _ _ (sym c.in_ok-place.ensures)
 
-  standing : FormulaStands c.args.places c.args.s.now c.in-At.place
-  standing = place_standing _ _ _ _ found
+pub returns-in_err-place : goal.returns-in_err-place
+returns-in_err-place c =
+    let a = c.args in
+    let p = err_from_is_err_and c.from_residual.result c.from_residual.ensures.1 in
+    rw (p.1, p.2) (when_refused a.places a.s.now a.number (λ (f : Formula). answer_at a.places f a.x) _ (sym c.in_err-place.ensures))
 
 pub record_at-requires : goal.record_at-requires
-record_at-requires c = (standing (goal.at.record_at-requires c).In-At).reach
+record_at-requires c = (standing (goal.at.record_at-requires c).In_ok-place).reach
 
 pub answer_of-requires : goal.answer_of-requires
-answer_of-requires c = let t = standing (goal.at.answer_of-requires c).In-At in (t.scale, rw c.record_at.ensures t.here)
+answer_of-requires c = let t = standing (goal.at.answer_of-requires c).In_ok-place in (t.scale, rw c.record_at.ensures t.here)
 
-pub returns-in-At : goal.returns-in-At
-returns-in-At c =
+pub returns : goal.returns
+returns c =
     let a = c.args in
-    rw (c.record_at.ensures, to_z-of_z c.ranges.x) at c.answer_of.ensures ∙ when_at a.places a.s.now a.number (λ (f : Formula). answer_at a.places f a.x) _ (found (goal.at.returns-in-At c).In-At)
-
-pub returns-in-Refused : goal.returns-in-Refused
-returns-in-Refused c =
-    let a = c.args in
-    when_refused a.places a.s.now a.number (λ (f : Formula). answer_at a.places f a.x) _ (sym c.formula_place.ensures ∙ c.in-Refused.is)
+    rw (c.record_at.ensures, to_z-of_z c.ranges.x) at c.answer_of.ensures ∙ when_at a.places a.s.now a.number (λ (f : Formula). answer_at a.places f a.x) _ (sym c.in_ok-place.ensures)

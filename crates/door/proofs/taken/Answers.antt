@@ -8,9 +8,7 @@ use Rattle.whole.proofs.Diff.{n}
 use Rattle.whole.proofs.Fit.{fit}
 use Rattle.whole.proofs.Held.{back, Held, held, arg, given, known}
 use Rattle.word.specs.Words.{with_sign}
-use Rattle.door.specs.declared.answer.Taken.{Taken}
-use Rattle.door.specs.declared.answer.Taken.TheVariants.{Word}
-use Rattle.door.specs.Taken.{as_word, taken_of}
+use Rattle.door.specs.Taken.{as_word, taken_of, Taken, took}
 use Rattle.door.proofs.TakenLaws.{from_ratio, taken_nan}
 use Rattle.door.proofs.FieldLaws.{field_ones, field_high, field_low, field_mid}
 use Rattle.door.proofs.BitLaws.{sign_bit, exponent, fraction, exponent_most, fraction_most, leading_digit, zero_bits, fields_of_lem}
@@ -60,7 +58,7 @@ returns-then-e-lt1022 c =
     let d = (goal.at.returns-then-e-lt1022 c).Start in
     by_fields d _
     (field_low (s d) (sign_bit (b d)) (exponent (b d)) (fraction (b d)) d.requires.most (fraction_most (b d)) (omega (arith, c.if-e-lt1022.true))
-    ∙ ap (Word (pos 0)) (zero_bits (b d)))
+    ∙ ap (took (pos 0)) (zero_bits (b d)))
 
 pub returns : goal.returns
 returns c =

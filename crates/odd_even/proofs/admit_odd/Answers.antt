@@ -1,6 +1,6 @@
 -- `odd_even::admit_odd` meets its contract: within range B_0 is a word, so that the last product's bound may be formed.
 use Rattle.whole.proofs.Basics.{sym, arith}
-use Rattle.stored.specs.Words.{words}
+use Rattle.stored.specs.Words.{values}
 use Rattle.polynomial.proofs.BoundLaws.{within_most}
 use Rattle.odd_even.proofs.SquareLaws.{square_told}
 use Rattle.odd_even.proofs.admit_odd.Goals as goal
@@ -8,6 +8,6 @@ use Rattle.odd_even.proofs.admit_odd.Goals as goal
 pub bound_product-requires : goal.bound_product-requires
 bound_product-requires c =
     let a = c.args in
-    let ws = words a.b.now a.at a.m in
-    let low = c.in-Within.low in
-    (c.requires.0, omega (arith, within_most a.s _ ws low (square_told a.s a.most ws low (sym c.in-Within.ensures)).1))
+    let ws = values a.words.now in
+    let low = c.in-Some.low in
+    (c.requires.0, omega (arith, within_most a.s _ ws low (square_told a.s a.most ws low (sym c.in-Some.ensures)).1))

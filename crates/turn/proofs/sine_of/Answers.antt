@@ -1,16 +1,15 @@
 -- `turn::sine_of` meets its contract: 15, or the answer at the argument, which lies in the interval, so that it is a word, with the
 -- argument's mark joined to it.
-use Rattle.whole.proofs.Basics.{◌≡◌, ◌∙◌, sym, ap, ap₂, subst, w32, SFits, rules}
+use Rattle.whole.proofs.Basics.{◌∙◌, sym, ap, subst, w32, SFits, rules}
 use Rattle.whole.proofs.Held.{held, arg}
 use Rattle.whole.proofs.Order.{≤ℤ_trans}
 use Rattle.word.specs.Words.{Word}
 use Rattle.sheet.specs.Reader.{formula_in}
 use Rattle.sheet.proofs.Words.{fit}
-use Rattle.answering.specs.Answering.{evaluation_word, with_mark, answer_at}
+use Rattle.answering.specs.Answering.{evaluation_word, answer_at}
 use Rattle.answering.proofs.IntervalLaws.{inside, answerable}
-use Rattle.answering.proofs.MarkLaws.{marked_word}
 use Rattle.board.proofs.AnswersInside.{odd_word}
-use Rattle.turn.specs.Angles.{quarter_of, rest_of, argument_of, exact_argument}
+use Rattle.turn.specs.Angles.{quarter_of, rest_of, argument_of}
 use Rattle.turn.proofs.ArgumentLaws.{rest_most, argument_low, argument_high}
 use Rattle.turn.proofs.FaultLaws.{sine_needs}
 use Rattle.turn.proofs.sine_of.Goals as goal
@@ -21,14 +20,12 @@ signed-requires c =
     let a = c.args.angle in
     let f = formula_in c.args.b.now in
     let x = argument_of s a in
-    -- what the board answers there, with the argument's own rounding
+    -- what the board answers there
     let w : SFits w32 c.argument-x.result.word = search rules in
-    let e : c.with_mark-e.result ≡ with_mark (exact_argument s a) (answer_at s f x) =
-    c.with_mark-e.ensures
-    ∙ ap₂ with_mark c.argument-x.ensures.mark (c.answer_of.ensures ∙ ap (answer_at s f) (held (arg {w = w32} w) ∙ c.argument-x.ensures.word)) in
+    let e = c.in_ok-answer.ensures ∙ ap (answer_at s f) (held (arg {w = w32} w) ∙ c.argument-x.ensures.word) in
     -- it is a word, since there is no fault
-    let k = sine_needs s f (sym c.sine_fault-f.ensures ∙ c.if-f-ne0.false) in
+    let k = sine_needs s f (sym c.in_ok-sine_fault.ensures) in
     let l = ≤ℤ_trans k.low (argument_low s (quarter_of a) (rest_of a)) in
     let h = ≤ℤ_trans (argument_high s (quarter_of a) (rest_of a) c.requires.0 (rest_most a)) k.high in
-    rw e
-    (subst Word (ap evaluation_word (inside s f x l h) ∙ sym (marked_word (exact_argument s a) (answer_at s f x))) (odd_word s f x k.odd (answerable s f x l h c.requires.0 (fit s c.args.b.now c.requires.1))))
+    rw c.with_mark.ensures
+    (subst Word (ap evaluation_word (inside s f x l h ∙ sym e)) (odd_word s f x k.odd (answerable s f x l h c.requires.0 (fit s c.args.b.now c.requires.1))))

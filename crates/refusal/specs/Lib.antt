@@ -1,0 +1,3 @@
+-- The paper's numbers of refusals, and their order.
+pub mod Told
+pub mod Guard
