@@ -8,7 +8,7 @@ ghost use Rattle.table.specs.declared.Class.TheVariants.{FormulaRecord};
 ghost use Rattle.layout.specs.Fields.{row_for, shape_of, words_of};
 ghost use Rattle.records.specs.Sheets.{RecordOf, FormulaBytes};
 ghost use Rattle.sheet.specs.Reader.{formula_in};
-ghost use Rattle.answering.specs.Answering.{marked, answer_at};
+ghost use Rattle.answering.specs.Answering.{with_mark, answer_at};
 
 use formula::Worked;
 use refusal::{Fault, Refusal};
@@ -38,13 +38,14 @@ pub fn answer_of(b: &[u8], x: i32, s: u32) -> Result<Worked, Refusal>
     })
 }
 
-// The answer with its argument's own rounding counted: it stays exact only where the argument is exact too.
-pub fn with_mark(answer: Worked, exact: bool) -> Worked
-    ensures { result ≡ marked exact answer }
+// The answer with its argument's own rounding counted: it stays exact only where the argument is exact too. A refusal stays as it is.
+pub fn with_mark(e: Result<Worked, Refusal>, exact: bool) -> Result<Worked, Refusal>
+    ensures { result ≡ with_mark exact e }
 {
-    Worked {
+    let answer = e?;
+    Ok(Worked {
         word: answer.word,
         steps: answer.steps,
         exact: exact & answer.exact,
-    }
+    })
 }

@@ -22,8 +22,7 @@ fn taken_of(b: &[u8], x: f64, s: u32) -> Result<Worked, Refusal>
     ensures { result ≡ taken_at s (formula_in b.now) x }
 {
     let argument = door::taken(x, s)?;
-    let answer = answering::answer_of(b, argument.word, s)?;
-    Ok(answering::with_mark(answer, argument.exact))
+    answering::with_mark(answering::answer_of(b, argument.word, s), argument.exact)
 }
 
 fn shown(answer: Worked, s: u32) -> Shown

@@ -1,4 +1,4 @@
--- A record without a fault in counts and length, and a row without counts, whose records have one length: the tests taken one by one.
+-- A number out of its range; a record without a fault in counts and length; and a row without counts, whose records have one length: the tests taken one by one.
 use Rattle.whole.proofs.Basics.{◌≡◌, refl, sym, ap, Bool, true, false, cond, List, ℕ, suc, zero, ◌+◌, ◌-◌, ◌*◌, ◌/◌, ◌≤◌, arith, eqb, ltb, length, eqb-true, eqb-false, ltb-true, ltb-false, eq-eqb, ne_eqb, lt-ltb, le-ltb}
 use native.Mathlib.Nat.{mul-zero}
 use Rattle.table.specs.declared.Field.{Field}
@@ -6,9 +6,21 @@ use Rattle.table.specs.declared.Row.{Row}
 use Rattle.table.specs.Table.{pieces_by, length_by, Within}
 use Rattle.table.specs.Rule.{Bare}
 use Rattle.layout.specs.Fields.{first_count, field_of, shape_of, Laid}
-use Rattle.refusal.specs.Guard.{or_else}
-use Rattle.faults.specs.Faults.{outside, count_fault, size_fault, length_fault}
+use Rattle.refusal.specs.Guard.{number_of, numbered, or_else}
+use Rattle.refusal.specs.declared.Fault.{Fault}
+use Rattle.faults.specs.Faults.{outside, outside_by, count_fault, size_fault, length_fault}
 use Rattle.faults.proofs.Chain.{passed, met, neither}
+use Rattle.std.specs.Prelude.{Err, Ok}
+
+-- what a check answers, by the paper's number
+pub outside_number : (f : Field) (n : ℕ) (k : Fault) → numbered (outside_by f n k) ≡ outside f n (number_of k)
+unfolding outside
+outside_number f n k = at (ltb n f.least) (ltb f.most n)
+  where
+    at : (t u : Bool) → numbered (cond t (Err k) (cond u (Err k) (Ok tt))) ≡ cond t (number_of k) (cond u (number_of k) 0)
+    at true u = refl
+    at false true = refl
+    at false false = refl
 
 pub inside : (f : Field) (n k : ℕ) → (k ≡ 0 → ⊥) → outside f n k ≡ 0 → Within f n
 unfolding outside

@@ -1,5 +1,5 @@
 -- Refusals 1, 2, 4, 5, 6 and 14 by the parts of a record, as the paper's numbers; 0 where there is none. The binary places are s.
-use Rattle.std.specs.Prelude.{ℕ, ◌-◌, ◌≡◌, refl, List, [], ◌∷◌, cond, ltb, eqb, length, replicate, ℤ, pos, negsuc, nat_abs}
+use Rattle.std.specs.Prelude.{ℕ, ◌-◌, ◌≡◌, refl, List, [], ◌∷◌, cond, ltb, eqb, length, replicate, ℤ, pos, negsuc, nat_abs, Result, Ok, Err, ⊤}
 use Rattle.std.specs.Int.Signed.{lt_z}
 use Rattle.word.specs.Words.{largest}
 use Rattle.stored.specs.Numbers.{number2, number4}
@@ -24,6 +24,10 @@ frame_fault s at =
 -- ---- exact length. The fault k of a count or mode outside its range
 unfoldable pub outside : Field → ℕ → ℕ → ℕ
 outside f n k = cond (ltb n f.least) k (cond (ltb f.most n) k 0)
+
+-- the same as a check answers it, of a fault of any type
+abbrev pub outside_by : {A : Type 0} → Field → ℕ → A → Result ⊤ A
+outside_by f n k = cond (ltb n f.least) (Err k) (cond (ltb f.most n) (Err k) (Ok tt))
 
 -- a count of coefficients or depth outside its range (2)
 unfoldable pub count_fault : Row → ℕ → ℕ → ℕ

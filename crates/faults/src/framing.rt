@@ -29,7 +29,7 @@ pub fn start_fault(b: &[u8]) -> Result<(), Fault>
     let row = table::row_of(table::START);
     bare_fault(b, row)?;
     let count = row.count;
-    parts::outside(count, layout::count(b), Fault::Count)
+    parts::range_fault(count, layout::count(b), Fault::Count)
 }
 
 // The same count as the start's, and as many formulas (4).

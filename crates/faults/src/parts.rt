@@ -5,20 +5,28 @@ ghost use Rattle.stored.specs.Words.{values};
 ghost use Rattle.formula.specs.Blank.{all_zero};
 ghost use Rattle.table.specs.Rule.{Ruled};
 ghost use Rattle.refusal.specs.Guard.{number_of, numbered};
-ghost use Rattle.faults.specs.Faults.{outside, count_fault, size_fault, order_fault, word_fault, words_fault, interval_fault, kind_fault, own_fault};
+ghost use Rattle.faults.specs.Faults.{outside, outside_by, count_fault, size_fault, order_fault, word_fault, words_fault, interval_fault, kind_fault, own_fault};
 
 use formula::{Kind, Shape};
 use refusal::Fault;
 use table::{Field, Row};
 
-#[tactic(auto, unfolding(crate::specs::Faults::outside))]
-pub fn outside(field: Field, n: u16, fault: Fault) -> Result<(), Fault>
-    ensures { numbered result ≡ outside field n (number_of fault) }
+// Whether a number is outside a field's range: then the fault that is handed in, of any type.
+pub fn outside<F: Copy>(field: Field, n: u16, fault: F) -> Result<(), F>
+    ensures { result ≡ outside_by field n fault }
 {
     if n < field.least || field.most < n {
         return Err(fault);
     }
     Ok(())
+}
+
+// The same of a fault, by its number.
+#[tactic(auto, using(crate::proofs::Lengths::outside_number))]
+pub fn range_fault(field: Field, n: u16, fault: Fault) -> Result<(), Fault>
+    ensures { numbered result ≡ outside field n (number_of fault) }
+{
+    outside(field, n, fault)
 }
 
 // A count of coefficients or depth outside its range (2).
@@ -27,9 +35,9 @@ pub fn count_fault(row: Row, p: u16, q: u16) -> Result<(), Fault>
     ensures { numbered result ≡ count_fault row p q }
 {
     let first = row.p;
-    outside(first, p, Fault::Length)?;
+    range_fault(first, p, Fault::Length)?;
     let second = row.q;
-    outside(second, q, Fault::Length)
+    range_fault(second, q, Fault::Length)
 }
 
 #[tactic(auto, using(crate::proofs::Lengths::first_in, crate::proofs::Lengths::second_in), unfolding(crate::specs::Faults::size_fault))]
@@ -119,7 +127,7 @@ pub fn own_fault(row: Row, shape: Shape, lo: i32, hi: i32) -> Result<(), Fault>
 {
     interval_fault(lo, hi)?;
     let mode = row.mode;
-    outside(mode, shape.mode, Fault::Value)?;
+    range_fault(mode, shape.mode, Fault::Value)?;
     let kind = row.kind;
     kind_fault(kind, lo)
 }

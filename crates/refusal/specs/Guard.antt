@@ -1,4 +1,4 @@
--- A refusal, and refusals in order: a fault is the paper's number, or 0 for none, and stands in front of all that comes after it.
+-- A fault's number, a refusal, and refusals in order: a number, or 0 for none, stands in front of all that comes after it.
 use Rattle.std.specs.Prelude.{ℕ, ◌≡◌, refl, cond, eqb, Result, Ok, Err, ⊤}
 use Rattle.refusal.specs.Told.{Told}
 use Rattle.refusal.specs.declared.Fault.{Fault}

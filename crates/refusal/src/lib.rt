@@ -34,10 +34,10 @@ impl Fault {
     }
 }
 
-// To a clause it is the paper's number and the place.
+// To a clause it is the number and the place. It keeps the number, so that one that is no fault's can be told too.
 #[derive(Drop)]
 pub struct Refusal {
-    fault: Fault,
+    number: u8,
     place: usize,
 }
 
@@ -46,22 +46,28 @@ impl Model for Refusal {
 
     ghost Value = { Told };
 
-    ghost use Rattle.refusal.specs.Guard.{refusal, number_of};
+    ghost use Rattle.refusal.specs.Guard.{refusal};
 
-    ghost view = { λ r. refusal r.place (number_of r.fault) };
+    ghost view = { λ r. refusal r.place r.number };
 }
 
 impl Refusal {
     pub fn new(fault: Fault, place: usize) -> Refusal
         ensures { result ≡ refusal place (number_of fault) }
     {
-        Refusal { fault, place }
+        Refusal::told(fault.number(), place)
+    }
+
+    pub fn told(number: u8, place: usize) -> Refusal
+        ensures { result ≡ refusal place number }
+    {
+        Refusal { number, place }
     }
 
     pub fn number(&self) -> u8
         ensures { result ≡ self.now.number }
     {
-        self.fault.number()
+        self.number
     }
 
     pub fn place(&self) -> usize

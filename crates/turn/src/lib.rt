@@ -80,11 +80,8 @@ fn sine_of(b: &[u8], angle: u32, s: u32) -> Result<Worked, Refusal>
 {
     sine_fault(b, s)?;
     let x = argument(angle, s);
-    let answer = answering::answer_of(b, x.word, s)?;
-    Ok(signed(
-        answering::with_mark(answer, x.exact),
-        1 < angle::quarter(angle),
-    ))
+    let answer = answering::with_mark(answering::answer_of(b, x.word, s), x.exact)?;
+    Ok(signed(answer, 1 < angle::quarter(angle)))
 }
 
 pub fn sine(s: &[u8], number: u16, angle: u32, places: u32) -> Result<Worked, Refusal>

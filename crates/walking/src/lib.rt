@@ -18,8 +18,8 @@ use sought::{Asked, Found};
 #[derive(Clone, Copy)]
 pub struct Walk {
     pub at: usize,
-    found: Found,
-    asked: Asked,
+    pub found: Found,
+    pub asked: Asked,
     pub next: u32,
     pub count: u16,
     pub seen: u16,

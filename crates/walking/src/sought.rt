@@ -1,7 +1,7 @@
 // The number that a walk looks for, if it looks for one, and the place where it was found, if it was: each an `Option` to a clause, and a
 // single number to the machine, so that a record costs no more for it.
 ghost use Rattle.std.specs.Prelude.{◌≡◌, ◌<◌, Some, None};
-ghost use Rattle.walking.specs.Sought.{is_asked};
+ghost use Rattle.walking.specs.Sought.{is_asked, number_asked};
 
 use std::marker::Model;
 
@@ -14,15 +14,13 @@ pub struct Asked {
 }
 
 impl Model for Asked {
-    ghost use Rattle.std.specs.Prelude.{ℕ, Option, ◌≤◌};
+    ghost use Rattle.std.specs.Prelude.{ℕ, Option};
 
     ghost Value = { Option ℕ };
 
     ghost use Rattle.walking.specs.Sought.{number_asked, asked_by};
 
     ghost view = { λ a. number_asked a.number };
-
-    ghost invariant = { λ a. a.number ≤ 65536 };
 
     ghost inverse = { λ o. record { number = asked_by o } };
 }
@@ -40,6 +38,13 @@ impl Asked {
         Asked {
             number: number as u32,
         }
+    }
+
+    // A number of 32 bits, as a caller may have it: 65536 asks for none, and one above it no formula has.
+    pub fn of(number: u32) -> Asked
+        ensures { result ≡ number_asked number }
+    {
+        Asked { number }
     }
 
     pub fn is(self, number: u16) -> bool

@@ -7,6 +7,7 @@ use Rattle.word.specs.Words.{Word}
 use Rattle.sheet.specs.Reader.{formula_in}
 use Rattle.sheet.proofs.Words.{fit}
 use Rattle.answering.specs.Answering.{evaluation_word, answer_at}
+use Rattle.answering.proofs.MarkLaws.{marked_word}
 use Rattle.answering.proofs.IntervalLaws.{inside, answerable}
 use Rattle.board.proofs.AnswersInside.{odd_word}
 use Rattle.turn.specs.Angles.{quarter_of, rest_of, argument_of}
@@ -22,10 +23,11 @@ signed-requires c =
     let x = argument_of s a in
     -- what the board answers there
     let w : SFits w32 c.argument-x.result.word = search rules in
-    let e = c.in_ok-answer.ensures ∙ ap (answer_at s f) (held (arg {w = w32} w) ∙ c.argument-x.ensures.word) in
+    let e = c.answer_of.ensures ∙ ap (answer_at s f) (held (arg {w = w32} w) ∙ c.argument-x.ensures.word) in
     -- it is a word, since there is no fault
     let k = sine_needs s f (sym c.in_ok-sine_fault.ensures) in
     let l = ≤ℤ_trans k.low (argument_low s (quarter_of a) (rest_of a)) in
     let h = ≤ℤ_trans (argument_high s (quarter_of a) (rest_of a) c.requires.0 (rest_most a)) k.high in
-    rw c.with_mark.ensures
-    (subst Word (ap evaluation_word (inside s f x l h ∙ sym e)) (odd_word s f x k.odd (answerable s f x l h c.requires.0 (fit s c.args.b.now c.requires.1))))
+    let m = ap evaluation_word c.in_ok-answer.ensures ∙ marked_word c.argument-x.result.exact c.answer_of.result in
+    subst Word (ap evaluation_word (inside s f x l h ∙ sym e) ∙ sym m)
+    (odd_word s f x k.odd (answerable s f x l h c.requires.0 (fit s c.args.b.now c.requires.1)))

@@ -18,4 +18,4 @@ returns-in_err-bare_fault c =
 
 pub returns : goal.returns
 unfolding start_fault
-returns c = ok_passes (rw (c.row_of-row.ensures, the_start) at (c.in_ok-bare_fault.ensures)) (rw (c.count.ensures, c.row_of-row.ensures, the_start) at c.outside.ensures)
+returns c = ok_passes (rw (c.row_of-row.ensures, the_start) at (c.in_ok-bare_fault.ensures)) (rw (c.count.ensures, c.row_of-row.ensures, the_start) at c.range_fault.ensures)
