@@ -1,17 +1,21 @@
 // One line of a listing, put on a page: a formula's, the count's or a refusal's.
 #![tactic(auto)]
 
-ghost use Rattle.std.specs.Prelude.{◌≡◌, ◌++◌, ◌+◌, ◌≤◌, length};
+ghost use Rattle.std.specs.Prelude.{◌≡◌, ◌+◌, ◌≤◌, length};
 ghost use Rattle.layout.specs.Fields.{row_for, formula_of};
+ghost use Rattle.text.specs.Text.{Puts};
 ghost use Rattle.line.specs.Line.{kind_name, interval_text, line_of, count_line, refusal_line};
 
 use formula::Kind;
 use refusal::Refusal;
-use text::{Page, ROOM};
+use text::Page;
 
 fn put_kind(page: &mut Page, kind: Kind)
-    requires { length page.old + 10 ≤ ROOM }
-    ensures { page.new ≡ page.old ++ kind_name kind }
+    requires { page.old.end + 10 ≤ length page.old.out.now }
+    ensures same_reference { page.new.out.ghost_name ≡ page.old.out.ghost_name }
+    ensures same_length { length page.new.out.now ≡ length page.old.out.now }
+    ensures put { Puts page.old.out.now page.old.end (kind_name kind) page.new.out.now page.new.end }
+    ensures room { page.new.end ≤ page.old.end + 10 }
 {
     match kind {
         Kind::Polynomial => page.put_text(b"polynomial"),
@@ -25,10 +29,12 @@ fn put_kind(page: &mut Page, kind: Kind)
 }
 
 // Low end and high end.
-#[tactic(auto, using(text::proofs::TextLaws::lengths))]
 fn put_interval(page: &mut Page, lo: i32, hi: i32)
-    requires { length page.old + 25 ≤ ROOM }
-    ensures { page.new ≡ page.old ++ interval_text lo hi }
+    requires { page.old.end + 25 ≤ length page.old.out.now }
+    ensures same_reference { page.new.out.ghost_name ≡ page.old.out.ghost_name }
+    ensures same_length { length page.new.out.now ≡ length page.old.out.now }
+    ensures put { Puts page.old.out.now page.old.end (interval_text lo hi) page.new.out.now page.new.end }
+    ensures room { page.new.end ≤ page.old.end + 25 }
 {
     page.put_text(b" ");
     page.put_signed(lo);
@@ -38,10 +44,13 @@ fn put_interval(page: &mut Page, lo: i32, hi: i32)
 }
 
 // The line of a formula record.
-#[tactic(auto, using(crate::proofs::LineLaws::line_steps))]
+#[tactic(auto, using(text::proofs::TextLaws::lengths))]
 pub fn put_line(page: &mut Page, b: &[u8])
-    requires { (length page.old + 41 ≤ ROOM) × (16 ≤ length b.now) }
-    ensures { page.new ≡ page.old ++ line_of (formula_of (row_for b.now) b.now) }
+    requires { (page.old.end + 41 ≤ length page.old.out.now) × (16 ≤ length b.now) }
+    ensures same_reference { page.new.out.ghost_name ≡ page.old.out.ghost_name }
+    ensures same_length { length page.new.out.now ≡ length page.old.out.now }
+    ensures put { Puts page.old.out.now page.old.end (line_of (formula_of (row_for b.now) b.now)) page.new.out.now page.new.end }
+    ensures room { page.new.end ≤ page.old.end + 41 }
 {
     page.put_decimal(layout::number(b) as usize);
     page.put_text(b" ");
@@ -49,20 +58,26 @@ pub fn put_line(page: &mut Page, b: &[u8])
     put_interval(page, layout::lo(b), layout::hi(b));
 }
 
-#[tactic(auto, using(text::proofs::TextLaws::lengths), unfolding(crate::specs::Line::count_line))]
+#[tactic(auto, using(text::proofs::TextLaws::lengths))]
 pub fn put_count(page: &mut Page, count: u16)
-    requires { length page.old + 15 ≤ ROOM }
-    ensures { page.new ≡ page.old ++ count_line count }
+    requires { page.old.end + 15 ≤ length page.old.out.now }
+    ensures same_reference { page.new.out.ghost_name ≡ page.old.out.ghost_name }
+    ensures same_length { length page.new.out.now ≡ length page.old.out.now }
+    ensures put { Puts page.old.out.now page.old.end (count_line count) page.new.out.now page.new.end }
+    ensures room { page.new.end ≤ page.old.end + 15 }
 {
     page.put_text(b"formulas ");
     page.put_decimal(count as usize);
     page.put_text(b"\n");
 }
 
-#[tactic(auto, using(text::proofs::TextLaws::lengths), unfolding(crate::specs::Line::refusal_line))]
+#[tactic(auto, using(text::proofs::TextLaws::lengths))]
 pub fn put_refusal(page: &mut Page, r: Refusal)
-    requires { length page.old + 36 ≤ ROOM }
-    ensures { page.new ≡ page.old ++ refusal_line r }
+    requires { page.old.end + 36 ≤ length page.old.out.now }
+    ensures same_reference { page.new.out.ghost_name ≡ page.old.out.ghost_name }
+    ensures same_length { length page.new.out.now ≡ length page.old.out.now }
+    ensures put { Puts page.old.out.now page.old.end (refusal_line r) page.new.out.now page.new.end }
+    ensures room { page.new.end ≤ page.old.end + 36 }
 {
     page.put_text(b"refused ");
     page.put_decimal(r.number() as usize);

@@ -1,16 +1,11 @@
 -- The formula records of an accepted sheet stand one behind the other, and their lines are those of the records: by induction on the
 -- records, each found in the middle of the bytes around it.
-use Rattle.whole.proofs.Basics.{◌≡◌, ◌∙◌, refl, sym, ap, ap₂, subst, List, [], ◌∷◌, ◌++◌, append_assoc, append-nil, ℕ, suc, zero, ◌+◌, ◌-◌, ◌*◌, ◌≤◌, ◌<◌, arith, length, length-append, lt-ltb, le-ltb, take, drop, inl, inr}
+use Rattle.whole.proofs.Basics.{◌≡◌, ◌∙◌, refl, sym, ap, ap₂, subst, List, [], ◌∷◌, ◌++◌, append_assoc, ℕ, suc, zero, ◌+◌, ◌-◌, ◌≤◌, ◌<◌, arith, length, length-append, lt-ltb, le-ltb}
 use Rattle.word.specs.Words.{Scale}
-use lib.ListN.{length-take}
-use lib.Seq.{get_or-take, get_or-drop}
-use mir.Facts.{sfits_to_z}
-use Rattle.std.proofs.lemmas.Bool.{cases_lt}
-use Rattle.std.proofs.lemmas.List.{get_or_past}
-use Rattle.stored.specs.Numbers.{Bytes, number2, number4}
+use Rattle.stored.specs.Numbers.{number4}
 use Rattle.stored.proofs.NumberLaws.{number4_more}
 use Rattle.table.specs.declared.Class.TheVariants.{FormulaRecord}
-use Rattle.layout.specs.Fields.{bytes_at, Reaches, formula_of, shape_of}
+use Rattle.layout.specs.Fields.{bytes_at, Reaches}
 use Rattle.layout.proofs.Cut.{length-bytes_at}
 use Rattle.faults.proofs.Frames.{framed, reaches}
 use Rattle.records.specs.Sheets.{FormulaBytes, EachFormula, in_line, SheetOf}
@@ -19,9 +14,7 @@ use Rattle.sheet.specs.Reader.{count_value, formula_count, formula_in, formula_a
 use Rattle.sheet.proofs.AcceptedShape.{accepted_shape}
 use Rattle.sheet.proofs.Words.{complete_record}
 use Rattle.text.specs.Text.{text}
-use Rattle.text.specs.declared.TheConstants.{ROOM}
 use Rattle.line.specs.Line.{line_of}
-use Rattle.line.proofs.LineLaws.{short_line}
 use Rattle.lines.specs.Listing.{places, lines_from, lines_of, listing_by, listing}
 use Rattle.refusal.specs.Guard.{refused_number}
 use Rattle.std.specs.Prelude.{Ok}
@@ -32,57 +25,22 @@ abbrev pub Ahead : ℕ → ℕ → List ℕ → ℕ → Type 0
 Ahead s zero bytes place = Unit
 Ahead s (suc n) bytes place = FormulaStands s bytes place × Ahead s n bytes (place + number4 bytes place)
 
--- n records are left, and their lines: with them the page is as it is to be, and there is room for them
-pub record Left (n : ℕ) (bytes : List ℕ) (place : ℕ) (page done : List ℕ) : Type 0 where
-  pub ahead : Ahead places n bytes place
-  pub lines : page ++ lines_from n bytes place ≡ done
-  pub room : length page + 41 * n ≤ ROOM
+pub here : (s n : ℕ) (bytes : List ℕ) (place : ℕ) → 0 < n → Ahead s n bytes place → FormulaStands s bytes place × Ahead s (n - 1) bytes (place + number4 bytes place)
+here s zero bytes place h a = absurd (omega arith)
+here s (suc n) bytes place h a = let e : suc n - 1 ≡ n = omega arith in rw e a
 
--- the record at the place
-pub here : (n : ℕ) {bytes : List ℕ} {place : ℕ} {page done : List ℕ} → 0 < n → Left n bytes place page done → FormulaStands places bytes place
-here zero h a = absurd (omega arith)
-here (suc n) h a = a.ahead.0
+pub one_line : (n : ℕ) (bytes : List ℕ) (place : ℕ) → 0 < n → lines_from n bytes place ≡ line_of (formula_at bytes place) ++ lines_from (n - 1) bytes (place + number4 bytes place)
+unfolding lines_from
+one_line zero bytes place h = absurd (omega arith)
+one_line (suc n) bytes place h = let e : suc n - 1 ≡ n = omega arith in rw e
+
+pub no_line : (n : ℕ) (bytes : List ℕ) (place : ℕ) → n ≡ 0 → lines_from n bytes place ≡ []
+unfolding lines_from
+no_line n bytes place e = rw e
 
 -- the record at a place has number, lo and hi
 pub long : (s : ℕ) (bytes : List ℕ) (place : ℕ) → FormulaStands s bytes place → 16 ≤ length (bytes_at bytes place)
 long s bytes place h = (complete_record _ h.here.one).least
-
--- the bytes of a record
-bytes_within : (s : List ℕ) (at : ℕ) → Bytes s → Bytes (bytes_at s at)
-unfolding bytes_at
-bytes_within s at h k =
-    elim (cases_lt k (number4 s at)) [
-      | inl inside ↦ rw (get_or-take (number4 s at) (drop at s) k 0 inside, get_or-drop at s k 0) (h (at + k))
-      | inr outside ↦ let z : length (take (number4 s at) (drop at s)) ≤ k = simp length-take (omega arith) in rw (get_or_past _ k 0 z) (omega arith)
-    ]
-
--- of bytes, the line of a formula
-short : (bytes : List ℕ) (place : ℕ) → Bytes bytes → length (line_of (formula_at bytes place)) ≤ 41
-unfolding formula_of shape_of number2 number4
-short bytes place h =
-    let b = bytes_within bytes place h in
-    short_line (formula_at bytes place) (omega (arith, b 6, b 7))
-    (sfits_to_z (record { fits = omega (arith, b 8, b 9, b 10, b 11) }))
-    (sfits_to_z (record { fits = omega (arith, b 12, b 13, b 14, b 15) }))
-
--- one line more
-pub next : (n : ℕ) (bytes : List ℕ) (place : ℕ) (page : List ℕ) {done : List ℕ} → Bytes bytes → 0 < n → Left n bytes place page done
-    → Left (n - 1) bytes (place + number4 bytes place) (page ++ line_of (formula_at bytes place)) done
-unfolding lines_from
-next zero bytes place page b h a = absurd (omega arith)
-next (suc n) bytes place page b h a =
-    let e : suc n - 1 ≡ n = omega arith in
-    rw e
-    (record {
-      ahead = a.ahead.1;
-      lines = append_assoc page _ _ ∙ a.lines;
-      room = omega (arith, a.room, length-append page (line_of (formula_at bytes place)), short bytes place b);
-    })
-
--- no line more
-pub last : {bytes : List ℕ} {place : ℕ} (page : List ℕ) {done : List ℕ} → Left 0 bytes place page done → page ≡ done
-unfolding lines_from
-last page a = sym (append-nil page) ∙ a.lines
 
 -- ---- in a sheet
 
@@ -135,5 +93,3 @@ not_too_long bytes x h e = rw (le-ltb 8192 (length bytes) h, e)
 
 pub by_reader : (bytes : List ℕ) → length bytes ≤ 8192 → listing bytes ≡ listing_by bytes (formula_count places bytes)
 by_reader bytes h = not_too_long bytes _ h refl
-
-pub ruleset listed = (too_long_lem, by_reader, append_assoc)

@@ -4,18 +4,22 @@
 ghost use Rattle.std.specs.Prelude.{◌≡◌, ◌++◌, ◌+◌, ◌*◌, ◌≤◌, length, drop};
 ghost use Rattle.stored.specs.Numbers.{number4};
 ghost use Rattle.sheet.specs.Reader.{formula_count};
+ghost use Rattle.text.specs.Text.{Puts};
 ghost use Rattle.lines.specs.Listing.{places, lines_from, listing};
 
 use sheet::reader;
-use text::{Page, ROOM};
+use text::Page;
 
 // A listing is of a sheet at so many binary places.
 const PLACES: u32 = 24;
 
 // The sheet has been accepted: its records are not checked again.
 fn put_lines(page: &mut Page, s: &[u8], count: u16)
-    requires { (formula_count places s.now ≡ Ok count) × (length page.old + 41 * count ≤ ROOM) }
-    ensures { page.new ≡ page.old ++ lines_from count s.now (number4 s.now 0) }
+    requires { (formula_count places s.now ≡ Ok count) × (page.old.end + 41 * count ≤ length page.old.out.now) }
+    ensures same_reference { page.new.out.ghost_name ≡ page.old.out.ghost_name }
+    ensures same_length { length page.new.out.now ≡ length page.old.out.now }
+    ensures put { Puts page.old.out.now page.old.end (lines_from count s.now (number4 s.now 0)) page.new.out.now page.new.end }
+    ensures room { page.new.end ≤ page.old.end + 41 * count }
 {
     let mut place = layout::record_at(s, 0).len();
     for _ in 0..count {
@@ -25,33 +29,33 @@ fn put_lines(page: &mut Page, s: &[u8], count: u16)
     }
 }
 
-#[tactic(auto, using(crate::proofs::LineLaws::listed))]
-fn page_of(s: &[u8]) -> Page
-    ensures { result ≡ listing s.now }
+// A listing has fewer characters: at most 15, and 41 for each of at most 64 formulas.
+fn put_listing(page: &mut Page, s: &[u8])
+    requires { page.old.end + 4096 ≤ length page.old.out.now }
+    ensures same_reference { page.new.out.ghost_name ≡ page.old.out.ghost_name }
+    ensures same_length { length page.new.out.now ≡ length page.old.out.now }
+    ensures put { Puts page.old.out.now page.old.end (listing s.now) page.new.out.now page.new.end }
+    ensures room { page.new.end ≤ page.old.end + 4096 }
 {
-    let mut page = Page::new();
     if 8192 < s.len() {
         page.put_text(b"too long\n");
-        return page;
+        return;
     }
     match reader::formula_count(s, PLACES) {
         Ok(count) => {
-            line::put_count(&mut page, count);
-            put_lines(&mut page, s, count);
+            line::put_count(page, count);
+            put_lines(page, s, count);
         }
-        Err(r) => line::put_refusal(&mut page, r),
+        Err(r) => line::put_refusal(page, r),
     }
-    page
 }
 
-// The text at the start of the buffer, and its length. The buffer is as long as the page.
-#[tactic(auto, using(stored::proofs::StoreLaws::sets_front))]
+// The text at the start of the buffer, and its length. The buffer is longer than any listing.
 pub fn list_sheet(s: &[u8], out: &mut [u8; 4096]) -> usize
     ensures text { (result ≡ length (listing s.now)) × (out.new ≡ listing s.now ++ drop result out.old) }
     ensures fits { (result ≤ 4096) × (length out.new ≡ 4096) }
 {
-    let page = page_of(s);
-    let text = page.text();
-    stored::put_bytes(out, 0, text);
-    text.len()
+    let mut page = Page::new(out, 0);
+    put_listing(&mut page, s);
+    page.text().len()
 }

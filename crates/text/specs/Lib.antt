@@ -1,2 +1,2 @@
--- What the text of a word or a number is.
+-- What the text of a number is, and what it means to put text into a buffer.
 pub mod Text

@@ -1,7 +1,8 @@
--- Text in ASCII: words, and numbers in decimal.
-use Rattle.std.specs.Prelude.{ℕ, zero, suc, ◌+◌, ◌/◌, ◌%◌, ◌≡◌, refl, List, [], ◌∷◌, ◌++◌, cond, ltb, ℤ, pos, negsuc}
+-- Text in ASCII: words, numbers in decimal, and what it says that a text is put into a buffer.
+use Rattle.std.specs.Prelude.{ℕ, zero, suc, ◌+◌, ◌/◌, ◌%◌, ◌≡◌, refl, List, [], ◌∷◌, ◌++◌, cond, ltb, ℤ, pos, negsuc, length}
 use Prim.Native.Char.{code}
 use Prim.Native.String.{String, [] as empty, ◌∷◌ as ◌◂◌}
+use Rattle.std.proofs.lemmas.List.Edits.{sets}
 
 -- the codes of a text's characters
 abbrev pub text : String → List ℕ
@@ -24,6 +25,11 @@ decimal n = digits_by 19 n
 abbrev pub signed : ℤ → List ℕ
 signed (pos n) = decimal n
 signed (negsuc n) = text "-" ++ decimal (suc n)
+
+-- a buffer that was l is now d: the text t stands in it from a place up to another, and all else is as it was
+pub record Puts (l : List ℕ) (at : ℕ) (t d : List ℕ) (n : ℕ) : Type 0 where
+  pub end : n ≡ at + length t
+  pub stored : d ≡ sets l at t
 
 -- ---- worked examples
 decimals :

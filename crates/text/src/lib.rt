@@ -1,68 +1,57 @@
-// A page of text in ASCII: words and numbers in decimal, each put behind what stands there.
+// A page: text in ASCII, put into a lent buffer from a place on, words and numbers in decimal, each behind what was put before.
 #![tactic(auto)]
 
-ghost use Rattle.std.specs.Prelude.{◌≡◌, ◌+◌, ◌≤◌, ◌++◌, [], length};
-ghost use Rattle.text.specs.Text.{decimal, signed};
+ghost use Rattle.std.specs.Prelude.{◌≡◌, ◌+◌, ◌≤◌, length, take};
+ghost use Rattle.text.specs.Text.{decimal, signed, Puts};
 
-use std::marker::Model;
-
-// A listing has fewer characters: at most 15, and 41 for each of at most 64 formulas.
-pub const ROOM: usize = 4096;
-
-#[derive(Drop)]
-pub struct Page {
-    bytes: [u8; ROOM],
-    len: usize,
+pub struct Page<'a> {
+    pub out: &'a mut [u8],
+    pub end: usize,
 }
 
-// To a clause it is the text so far.
-impl Model for Page {
-    ghost use Rattle.std.specs.Prelude.{ℕ, ◌≤◌, List, take};
-    ghost use Rattle.text.specs.declared.TheConstants.{ROOM};
-
-    ghost Value = { List ℕ };
-
-    ghost view = { λ p. take p.len p.bytes };
-
-    ghost invariant = { λ p. p.len ≤ ROOM };
-}
-
-impl Page {
-    pub fn new() -> Page
-        ensures { result ≡ [] }
+impl<'a> Page<'a> {
+    pub fn new(out: &'a mut [u8], at: usize) -> Page<'a>
+        ensures same_reference { result.out.ghost_name ≡ out.entry.ghost_name }
+        ensures buffer { result.out.now ≡ out.old }
+        ensures end { result.end ≡ at }
     {
-        Page {
-            bytes: [0; ROOM],
-            len: 0,
-        }
+        Page { out, end: at }
     }
 
     pub fn put_text(&mut self, text: &[u8])
-        requires { length self.old + length text.now ≤ ROOM }
-        ensures { self.new ≡ self.old ++ text.now }
+        requires { self.old.end + length text.now ≤ length self.old.out.now }
+        ensures same_reference { self.new.out.ghost_name ≡ self.old.out.ghost_name }
+        ensures same_length { length self.new.out.now ≡ length self.old.out.now }
+        ensures put { Puts self.old.out.now self.old.end text.now self.new.out.now self.new.end }
     {
-        let end = self.len + text.len();
-        self.bytes[self.len..end].copy_from_slice(text);
-        self.len = end;
+        stored::put_bytes(self.out, self.end, text);
+        self.end += text.len();
     }
 
     // The digits in front of the last one are those of n / 10.
     #[tactic(auto, using(crate::proofs::TextLaws::digits))]
     pub fn put_decimal(&mut self, n: usize)
-        requires { length self.old + length (decimal n) ≤ ROOM }
-        ensures { self.new ≡ self.old ++ decimal n }
+        requires { self.old.end + length (decimal n) ≤ length self.old.out.now }
+        ensures same_reference { self.new.out.ghost_name ≡ self.old.out.ghost_name }
+        ensures same_length { length self.new.out.now ≡ length self.old.out.now }
+        ensures put { Puts self.old.out.now self.old.end (decimal n) self.new.out.now self.new.end }
     {
-        if 10 <= n {
-            self.put_decimal(n / 10);
+        if n < 10 {
+            self.put_text(&[48 + n as u8]);
+            return;
         }
+        self.put_decimal(n / 10);
         self.put_text(&[48 + (n % 10) as u8]);
     }
 
     // A sign and at most ten digits.
     #[tactic(auto, using(crate::proofs::TextLaws::lengths))]
     pub fn put_signed(&mut self, x: i32)
-        requires { length self.old + 11 ≤ ROOM }
-        ensures { self.new ≡ self.old ++ signed x }
+        requires { self.old.end + 11 ≤ length self.old.out.now }
+        ensures same_reference { self.new.out.ghost_name ≡ self.old.out.ghost_name }
+        ensures same_length { length self.new.out.now ≡ length self.old.out.now }
+        ensures put { Puts self.old.out.now self.old.end (signed x) self.new.out.now self.new.end }
+        ensures room { self.new.end ≤ self.old.end + 11 }
     {
         if x < 0 {
             self.put_text(b"-");
@@ -70,10 +59,19 @@ impl Page {
         self.put_decimal(word::magnitude(x) as usize);
     }
 
+    // What stands in the buffer up to the page's end.
     pub fn text(&self) -> &[u8]
-        ensures text { result.now ≡ self.now }
-        ensures fits { length result.now ≤ ROOM }
+        requires { self.now.end ≤ length self.now.out.now }
+        ensures { result.now ≡ take self.now.end self.now.out.now }
     {
-        &self.bytes[..self.len]
+        &self.out[..self.end]
+    }
+}
+
+impl Drop for Page<'_> {
+    fn drop(self)
+        ensures { self.exit.0.now ≡ self.entry.out.now }
+    {
+        let Page { out: _, end: _ } = self;
     }
 }
