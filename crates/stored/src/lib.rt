@@ -1,5 +1,5 @@
 // Numbers and bytes in a slice of bytes, a number with the lowest byte first: read at a place, and stored at one. Bytes are put together by
-// shifts, and cut by remainders: nothing multiplies, as the library's own `from_le_bytes` and `as_chunks` do.
+// shifts: nothing multiplies, as the library's own `from_le_bytes` and `as_chunks` do.
 #![tactic(auto)]
 
 ghost use Rattle.std.specs.Prelude.{◌≡◌, ◌+◌, ◌<◌, ◌≤◌, ◌/◌, ◌%◌, length};
@@ -73,9 +73,13 @@ pub fn put_word(out: &mut [u8], at: usize, x: i32)
     put4(out, at, x.cast_unsigned());
 }
 
+// Byte by byte: for a length that it doesn't know, the compiler makes `memmove` of `copy_from_slice`, which a board's C may not have.
+#[tactic(auto, using(crate::proofs::StoreLaws::turn))]
 pub fn put_bytes(out: &mut [u8], at: usize, bytes: &[u8])
     requires { at + length bytes.now ≤ length out.old }
     ensures { out.new ≡ sets out.old at bytes.now }
 {
-    out[at..at + bytes.len()].copy_from_slice(bytes);
+    for (i, byte) in bytes.iter().enumerate() {
+        out[at + i] = *byte;
+    }
 }
