@@ -33,17 +33,20 @@ impl From<Result<Formula, Refusal>> for FoundFields {
     ghost from_gives = { λ answer given. given ≡ found answer };
 
     fn from(answer: Result<Formula, Refusal>) -> FoundFields {
-        match answer {
-            Ok(formula) => FoundFields {
-                refused: 0,
-                place: 0,
-                fields: Fields::from(formula),
-            },
-            Err(r) => FoundFields {
-                refused: r.number() as u32,
-                place: r.place() as u64,
-                fields: Fields::none(),
-            },
+        let formula = match answer {
+            Ok(formula) => formula,
+            Err(r) => {
+                return FoundFields {
+                    refused: r.number() as u32,
+                    place: r.place() as u64,
+                    fields: Fields::none(),
+                };
+            }
+        };
+        FoundFields {
+            refused: 0,
+            place: 0,
+            fields: Fields::from(formula),
         }
     }
 }
