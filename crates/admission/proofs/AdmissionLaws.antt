@@ -16,7 +16,7 @@ apart_yes l a h = ap (λ (b : Bool). cond b divisor_zero a) (lt-ltb l 1 h)
 pub apart_no : (l : ℕ) (a : Admission) → 1 ≤ l → apart l a ≡ a
 apart_no l a h = ap (λ (b : Bool). cond b divisor_zero a) (le-ltb l 1 h)
 
--- ---- of an admitted chain: a test that refuses with any answer but `Admitted` was passed
+-- ---- of an admitted chain: a test that refuses with any answer but `granted` was passed
 passed : (b : Bool) (r a : Admission) → 0 < admission_number r → cond b r a ≡ granted → (b ≡ false) × (a ≡ granted)
 passed true r a h e = absurd (omega (arith, ap admission_number e))
 passed false r a h e = (refl, e)

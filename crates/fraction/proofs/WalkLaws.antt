@@ -1,5 +1,5 @@
 -- The walk outward, step by step, as the code meets it.
-use Rattle.whole.proofs.Basics.{◌≡◌, refl, sym, List, [], ℕ, suc, zero, ◌+◌, ◌*◌, ◌≤◌, ◌<◌, arith, length, get_or, ℤ, nat_abs}
+use Rattle.whole.proofs.Basics.{◌≡◌, refl, sym, cond, List, [], ℕ, suc, zero, ◌+◌, ◌*◌, ◌≤◌, ◌<◌, arith, eqb, length, get_or, ℤ, nat_abs, ne_eqb}
 use Rattle.word.specs.Words.{Word}
 use Rattle.stored.specs.Words.{value, values}
 use Rattle.stored.proofs.ValuesLaws.{values_at}
@@ -13,7 +13,20 @@ b_is words i h = let e : 2 * i ≡ i + i = omega arith in rw e (sym (values_at w
 pub a_is : (words : List (List ℕ)) (i : ℕ) → i + i + 1 < length words → value (get_or words (2 * i + 1) []) ≡ a_after (values words) i
 a_is words i h = let e : 2 * i ≡ i + i = omega arith in rw e (sym (values_at words (i + i + 1) h))
 
--- ---- the choice of v
+-- ---- the choice of v, and v1 and the other v's by the mode, each as one test
+pub at_is : {A : Type 0} (first rest : A) (i : ℕ) → at first rest i ≡ cond (eqb i 0) first rest
+at_is first rest zero = refl
+at_is first rest (suc i) = rw (ne_eqb (suc i) 0 (λ e. omega arith))
+
+pub rest_is : {A : Type 0} (x q : A) (m : ℕ) → rest_of m x q ≡ cond (eqb m 0) x q
+rest_is x q zero = refl
+rest_is x q (suc m) = rw (ne_eqb (suc m) 0 (λ e. omega arith))
+
+pub first_is : {A : Type 0} (x q : A) (m : ℕ) → first_of m x q ≡ cond (eqb m 1) q x
+first_is x q zero = refl
+first_is x q (suc zero) = refl
+first_is x q (suc (suc m)) = rw (ne_eqb (suc (suc m)) 1 (λ e. omega arith))
+
 pub at_size : (i : ℕ) (x y : ℤ) (X Y : ℕ) → nat_abs x ≤ X → nat_abs y ≤ Y → nat_abs (at x y i) ≤ at X Y i
 at_size zero x y X Y f g = f
 at_size (suc i) x y X Y f g = g

@@ -1,12 +1,13 @@
 -- Admission of a fraction, step by step, as the code meets it.
-use Rattle.whole.proofs.Basics.{◌≡◌, refl, Bool, true, false, cond, List, ℕ, suc, ◌+◌, ◌-◌, ◌*◌, ◌≤◌, ◌<◌, arith, eqb, ltb, get_or, ℤ, pos, nat_abs, eqb-true, eqb-false, ltb-false, le-ltb}
+use Rattle.whole.proofs.Basics.{◌≡◌, refl, Bool, true, false, cond, List, ℕ, suc, zero, ◌+◌, ◌-◌, ◌*◌, ◌≤◌, ◌<◌, arith, eqb, ltb, length, get_or, ℤ, pos, nat_abs, eqb-true, eqb-false, ltb-false, le-ltb}
 use native.Mathlib.Nat.{mul-le-mul, mul-le-mul_left}
+use lib.ListN.{get_or-eq_default}
 use lib.Pow.{pow_mono}
-use Rattle.word.specs.Words.{Word, Scale, unit, bound_quotient}
+use Rattle.word.specs.Words.{Word, Scale, unit, bound_product, bound_quotient}
 use Rattle.word.proofs.RoundedLaws.{up_least}
-use Rattle.admission.specs.Admission.{Admission, granted, range_left, divisor_zero}
-use Rattle.fraction.specs.Fraction.{b_at, a_after, at}
-use Rattle.fraction.specs.Admission.{g_bound, q_bound, admit_from}
+use Rattle.admission.specs.Admission.{Admission, granted, range_left, divisor_zero, ranged}
+use Rattle.fraction.specs.Fraction.{b_at, a_after, at, first_of}
+use Rattle.fraction.specs.Admission.{g_bound, q_bound, admit_from, admit_inner, fraction_admission}
 use Rattle.fraction_admission.specs.Terms.{judged_term}
 use Rattle.std.specs.Prelude.{None, Option, Some}
 
@@ -67,6 +68,14 @@ module _ (s first rest : ℕ) (ws : List ℤ) (j L : ℕ) where
 abbrev pub WordsFrom : List ℤ → ℕ → Type 0
 WordsFrom ws n = (i : ℕ) → n ≤ i → Word (get_or ws i (pos 0))
 
+-- the last one, behind which there is none
+pub none_behind : (ws : List ℤ) (n : ℕ) → length ws ≡ n + 1 → Word (get_or ws n (pos 0)) → WordsFrom ws n
+none_behind ws n e h i g = at (eqb i n) refl
+  where
+    at : (t : Bool) → eqb i n ≡ t → Word (get_or ws i (pos 0))
+    at true q = rw (eqb-true i n q) h
+    at false q = rw (get_or-eq_default ws (pos 0) {n = i} (let d = eqb-false i n q in omega (arith, e))) (omega arith)
+
 -- and two more in front: b_i and a_(i+1)
 pub two_more : (ws : List ℤ) (i : ℕ) → Word (a_after ws i) → Word (b_at ws i) → WordsFrom ws (suc i + suc i) → WordsFrom ws (i + i)
 two_more ws i a b h k g = at (eqb k (i + i)) refl (eqb k (i + i + 1)) refl
@@ -75,3 +84,8 @@ two_more ws i a b h k g = at (eqb k (i + i)) refl (eqb k (i + i + 1)) refl
     at true q u r = rw (eqb-true k (i + i) q) b
     at false q true r = rw (eqb-true k (i + i + 1) r) a
     at false q false r = h k (let d = eqb-false k (i + i) q in let e = eqb-false k (i + i + 1) r in omega arith)
+
+-- ---- by the mode
+pub mode_more : (s A mode : ℕ) (ws : List ℤ) (k S : ℕ) → ¬ (mode ≡ 0) → S ≡ bound_product s A A → fraction_admission s A mode ws k ≡ ranged S (admit_inner s (first_of mode A S) S ws k)
+mode_more s A zero ws k S h e = absurd (h refl)
+mode_more s A (suc m) ws k S h e = rw e

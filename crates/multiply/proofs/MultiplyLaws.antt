@@ -1,15 +1,21 @@
 -- The laws of halves: they make up their number, and its products with another's halves make up the product.
 use Rattle.whole.proofs.Basics.{◌≡◌, ◌∙◌, ap, ap₂, ℕ, ◌+◌, ◌*◌, ◌/◌, ◌^◌, ◌<◌, arith}
-use Rattle.std.proofs.Common.{mod-lt}
+use Rattle.std.proofs.Common.{mod-lt, mul-le-mul}
 use native.Mathlib.Nat.{div-add-mod}
-use Rattle.multiply.specs.Halves.{halves_of, middle_and_low}
+use Rattle.multiply.specs.Halves.{OfHalves, halves_of, middle_and_low}
 use Rattle.multiply.specs.declared.Halves.{Halves}
 
-put_together : (a : ℕ) (x : Halves) → x ≡ halves_of a → 2 ^ 16 * x.high + x.low ≡ a
-put_together a x e = ap (λ (h : Halves). 2 ^ 16 * h.high + h.low) e ∙ div-add-mod a (2 ^ 16)
+pub high_below : (a : ℕ) → a < 2 ^ 32 → (halves_of a).high < 2 ^ 16
+high_below a h = omega (arith, div-add-mod a 65536)
 
 low_below : (a : ℕ) → (halves_of a).low < 2 ^ 16
 low_below a = mod-lt a (omega arith)
+
+pub of_halves : (x y : ℕ) → x < 2 ^ 16 → y < 2 ^ 16 → OfHalves (x * y)
+of_halves x y f g = mul-le-mul {n₁ = x} {m₁ = y} {n₂ = 65535} {m₂ = 65535} (omega arith) (omega arith)
+
+put_together : (a : ℕ) (x : Halves) → x ≡ halves_of a → 2 ^ 16 * x.high + x.low ≡ a
+put_together a x e = ap (λ (h : Halves). 2 ^ 16 * h.high + h.low) e ∙ div-add-mod a (2 ^ 16)
 
 -- what is carried from half to half is what passes 32 digits
 pub carried_is :

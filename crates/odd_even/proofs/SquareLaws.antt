@@ -1,4 +1,4 @@
--- What `bound_at_square` says: where it is `Within b`, S is in range and b is the polynomial's B_0 with S in place of A.
+-- What `bound_at_square` says: where it is `Some b`, S is in range and b is the polynomial's B_0 with S in place of A.
 use Rattle.whole.proofs.Basics.{◌≡◌, refl, Bool, true, false, cond, List, ℕ, ◌≤◌, ◌<◌, ltb, ℤ, ltb-false, lt-ltb, le-ltb}
 use Rattle.word.specs.Words.{largest, bound_product}
 use Rattle.polynomial.specs.Polynomial.{bound_of}

@@ -1,4 +1,4 @@
--- What `bound_of` says: where it is `Within b`, b is B_0 and every B is in range.
+-- What `bound_of` says: where it is `Some b`, b is B_0 and every B is in range.
 use Rattle.whole.proofs.Basics.{◌≡◌, ◌∙◌, refl, sym, ap, Bool, true, false, cond, List, [], ◌∷◌, ℕ, suc, zero, ◌+◌, ◌*◌, ◌≤◌, ◌<◌, arith, ltb, length, drop, get_or, ℤ, pos, nat_abs, ltb-false, lt-ltb, le-ltb}
 use native.Mathlib.Nat.{mul-le-mul_left}
 use lib.ListN.{drop_of_length-le}
@@ -18,7 +18,7 @@ bounded_yes b h = ap (λ (t : Bool). cond t None (Some b)) (lt-ltb 2147483647 b 
 pub bounded_no : (b : ℕ) → b ≤ 2147483647 → bounded b ≡ Some b
 bounded_no b h = ap (λ (t : Bool). cond t None (Some b)) (le-ltb 2147483647 b h)
 
--- ---- `Within` told apart from `Beyond`
+-- ---- `Some` told apart from `None`
 held_in : Option ℕ → ℕ
 held_in (Some b) = b
 held_in None = 0

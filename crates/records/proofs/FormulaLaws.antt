@@ -1,4 +1,4 @@
--- A record's check by its code, which is a formula's or none that a formula has.
+-- A record's check by its code, which is a formula's or none that a formula has. A root has no words and is never blank, so that its front is all.
 use Rattle.whole.proofs.Basics.{◌≡◌, ◌∙◌, refl, sym, ap, List, ℕ, arith}
 use Rattle.stored.specs.Words.{words}
 use Rattle.formula.specs.declared.Kind.{Kind}
@@ -12,9 +12,18 @@ use Rattle.table.specs.declared.Row.{Row}
 use Rattle.layout.specs.Fields.{shape_of}
 use Rattle.refusal.specs.Guard.{or_else}
 use Rattle.faults.specs.Faults.{words_fault}
-use Rattle.faults.proofs.Chain.{stop}
+use Rattle.faults.proofs.Chain.{stop, or_none}
 use Rattle.records.specs.Records.{formula_fault, front_fault, only_formula}
 use Rattle.records.proofs.Front.{from_words, front_first}
+
+pub no_words : (s : ℕ) (r : Row) (b : List ℕ) (seen count next : ℕ) → r.kind ≡ Root → front_fault r b seen count next ≡ formula_fault s r b seen count next
+unfolding shape_of words_fault words
+no_words s r b seen count next e =
+    let f = front_fault r b seen count next in
+    sym (or_none f) ∙ ap (or_else f) none ∙ front_first s r b seen count next
+  where
+    none : 0 ≡ from_words s r b
+    none = rw e refl
 
 pub no_formula_lem : (c : ℕ) → (c ≡ 0x0010 → ⊥) → (c ≡ 0x0011 → ⊥) → (c ≡ 0x0012 → ⊥) → (c ≡ 0x0013 → ⊥) → (c ≡ 0x0014 → ⊥) → (c ≡ 0x0015 → ⊥) → only_formula (row_of c).class ≡ 3
 unfolding code_for first_row rows

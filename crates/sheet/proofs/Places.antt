@@ -5,7 +5,7 @@ use Rattle.table.specs.declared.Class.TheVariants.{FormulaRecord}
 use Rattle.layout.specs.Fields.{bytes_at, formula_number}
 use Rattle.faults.proofs.Frames.{framed, reaches}
 use Rattle.records.specs.Sheets.{FormulaBytes, EachFormula, Rising, in_line, Has, SheetOf}
-use Rattle.walking.specs.Walking.{walk_of, Walked, whole}
+use Rattle.walking.specs.Walking.{walk_of, Walkable, Walked, whole}
 use Rattle.walking.specs.Refused.{next_number}
 use Rattle.walking.proofs.Records.{frame_there, bytes_there}
 use Rattle.walking.proofs.Formulas.{place_in}
@@ -13,6 +13,10 @@ use Rattle.walking.proofs.WalkToShape.{shape}
 use Rattle.walking.proofs.ShapeToWalk.{walked}
 use Rattle.sheet.specs.Reader.{place_found, place_answer, formula_place, FormulaStands}
 use Rattle.std.specs.Prelude.{Err, Ok, Option, Some, None}
+
+-- a sheet is walked from its first byte
+pub from_first : (s : ℕ) → Walkable s 0
+from_first s = record { near = omega arith; scale = λ n. absurd (n refl) }
 
 -- a record of the number n, at the place k, where the first of them stands at `at`
 pub record RecordAt (n at k : ℕ) (fs : List (List ℕ)) : Type 0 where

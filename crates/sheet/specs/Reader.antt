@@ -97,7 +97,7 @@ formula_read s bytes n = read_at bytes (formula_place s bytes n)
 abbrev pub HasFormula : ℕ → List ℕ → ℕ → Type 0
 HasFormula s bytes n = refused_number (formula_read s bytes n) ≡ 0
 
--- ---- a formula that is sound, not blank and granted
+-- ---- a formula that is sound, not blank and admitted
 pub record Fit (s : ℕ) (f : Formula) : Type 0 where
   pub sound : Sound f.shape f.lo f.hi (words_in f)
   pub not_blank : blank_of f.shape (words_in f) ≡ false

@@ -1,8 +1,9 @@
 -- Runs of stores in a list, and the bytes of a number that stands in one.
-use Rattle.whole.proofs.Basics.{◌≡◌, ◌∙◌, refl, List, [], ◌∷◌, ◌++◌, append_assoc, ℕ, suc, ◌+◌, ◌/◌, ◌%◌, ◌≤◌, arith, length, take, drop, get_or}
+use Rattle.whole.proofs.Basics.{◌≡◌, ◌∙◌, refl, sym, ap, List, [], ◌∷◌, ◌++◌, append_assoc, ℕ, suc, ◌+◌, ◌/◌, ◌%◌, ◌≤◌, ◌<◌, arith, length, take, drop, get_or}
 use native.Mathlib.Nat.{add-zero, zero-add}
+use native.Mathlib.Numerals.{add-one}
 use lib.ListN.{set}
-use lib.Seq.{sets, sets-eq, drop-drop}
+use lib.Seq.{sets, sets-eq, drop-drop, take-suc, length-take-le}
 use Rattle.stored.specs.Numbers.{Bytes, number2, number4, bytes2, bytes4}
 
 -- ---- runs of stores: a run behind a run
@@ -18,6 +19,12 @@ next l a b i n p q r = r ∙ rw (p, q) (sets_sets a l b i)
 -- a run at the front
 pub sets_front : (l a : List ℕ) → length a ≤ length l → sets l 0 a ≡ a ++ drop (length a) l
 sets_front l a h = rw (sets-eq a l 0 (omega arith), zero-add (length a))
+
+-- a turn of a loop that copies
+pub turn : (out bytes d : List ℕ) (at i : ℕ) → i < length bytes → d ≡ sets out at (take i bytes) → set d (at + i) (get_or bytes i 0) ≡ sets out at (take (i + 1) bytes)
+turn out bytes d at i h e =
+    rw (add-one i, take-suc bytes i 0 h)
+    (next out (take i bytes) (get_or bytes i 0 ∷ []) at (at + i) e (ap (λ (n : ℕ). at + n) (sym (length-take-le i bytes (omega arith)))) refl)
 
 -- bytes in the place of as many
 pub put_part : (l ms vs : List ℕ) (at n : ℕ) → ms ≡ vs → n ≡ length vs → at + length vs ≤ length l → take at l ++ (ms ++ drop n (drop at l)) ≡ sets l at vs

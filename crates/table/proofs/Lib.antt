@@ -1,5 +1,6 @@
 -- Laws, lowest first.
 pub mod Tested
+pub mod Search
 pub mod CodeLaws
 pub mod Rule
 pub mod OrderLaws

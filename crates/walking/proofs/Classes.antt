@@ -1,5 +1,5 @@
--- The faults of a record, class by class as the code meets them, are those in the paper's order; and which codes are framing records'.
-use Rattle.whole.proofs.Basics.{◌≡◌, ◌∙◌, refl, sym, ap, subst, Bool, true, false, cond, List, ℕ, arith, eqb}
+-- The faults of a record, class by class as the code meets them, are those in the paper's order; which codes are framing records'; and a run's room.
+use Rattle.whole.proofs.Basics.{◌≡◌, ◌∙◌, refl, sym, ap, subst, Bool, true, false, cond, List, ℕ, suc, zero, arith, eqb}
 use Rattle.table.specs.declared.Class.{Class}
 use Rattle.table.specs.declared.Class.TheVariants.{StartRecord, FormulaRecord, EndRecord, Unknown}
 use Rattle.table.specs.declared.Row.{Row}
@@ -11,7 +11,7 @@ use Rattle.refusal.specs.Guard.{or_else}
 use Rattle.faults.specs.Faults.{length_fault, start_fault, scale_fault, end_fault}
 use Rattle.faults.proofs.Chain.{or_assoc}
 use Rattle.records.specs.Records.{formula_fault, only_formula}
-use Rattle.walking.specs.Walking.{place_fault, class_fault, record_fault, start_record_fault, end_record_fault, other_record_fault}
+use Rattle.walking.specs.Walking.{room_for, place_fault, class_fault, record_fault, start_record_fault, end_record_fault, other_record_fault}
 use Rattle.walking.specs.declared.Walk.{Walk}
 
 -- ---- the codes of a start and of an end
@@ -30,6 +30,11 @@ start_class c e = subst (λ (n : ℕ). (row_of n).class ≡ StartRecord) (sym e)
 pub end_class : (c : ℕ) → c ≡ 0xffff → (row_of c).class ≡ EndRecord
 unfolding row_of first_row rows
 end_class c e = subst (λ (n : ℕ). (row_of n).class ≡ EndRecord) (sym e) refl
+
+-- ---- the room of a run: as many records as the table lets a start say
+pub some : (n : ℕ) → ¬ (n ≡ 0) → start_row.count.most ≡ room_for n
+some zero h = absurd (h refl)
+some (suc n) h = refl
 
 -- ---- the faults
 module _ (s : ℕ) (from : ℕ) (b : List ℕ) (w : Walk) where

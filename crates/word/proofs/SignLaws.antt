@@ -1,5 +1,5 @@
--- The laws of the sign, by its two cases: how it is tested for, what keeps it, what it leaves of a number, and that a number is its size with its
--- sign put back.
+-- The laws of the sign, by its two cases: how it is tested for, what keeps it, what it leaves of a number, that a number is its size with its
+-- sign put back, and a product's sign.
 use Rattle.whole.proofs.Basics.{◌≡◌, ◌∙◌, refl, sym, ap, Bool, true, false, not, ℕ, suc, zero, ◌*◌, ◌<◌, arith, ℤ, pos, negsuc, neg_ℤ, nat_abs, ◌+ℤ◌, ◌-ℤ◌, ◌*ℤ◌, lt_z, SFits}
 use mathlib.Core.Bool.{beq}
 use lib.IntN.{neg_ℤ-neg_ℤ}
@@ -47,6 +47,10 @@ pub sign_mul : (t : Bool) (z : ℤ) (k : ℕ) → with_sign t z *ℤ pos k ≡ w
 sign_mul true z k = same (⊖ v z ⊗ n k) (⊖ (v z ⊗ n k)) (omega arith)
 sign_mul false z k = refl
 
+pub sign_off : (z : ℤ) → with_sign (below_zero z) z ≡ pos (nat_abs z)
+sign_off (pos k) = refl
+sign_off (negsuc k) = refl
+
 pub sign_back : (z : ℤ) → with_sign (below_zero z) (pos (nat_abs z)) ≡ z
 sign_back (pos k) = refl
 sign_back (negsuc k) = refl
@@ -54,6 +58,12 @@ sign_back (negsuc k) = refl
 -- whether two signs differ, which is the sign of a product
 abbrev pub differ : ℤ → ℤ → Bool
 differ a b = not (beq (below_zero a) (below_zero b))
+
+pub sign_times : (a b : ℤ) → with_sign (differ a b) (pos (nat_abs a * nat_abs b)) ≡ a *ℤ b
+sign_times (pos a) (pos b) = refl
+sign_times (pos a) (negsuc b) = refl
+sign_times (negsuc a) (pos b) = refl
+sign_times (negsuc a) (negsuc b) = refl
 
 -- behind a 0 the sign can be taken from the sum
 pub sign_behind_zero : (a b : ℤ) → a ≡ pos 0 → a +ℤ neg_ℤ b ≡ neg_ℤ (a +ℤ b)
