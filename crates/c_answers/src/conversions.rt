@@ -32,6 +32,7 @@ impl From<Result<u16, Refusal>> for CountedFormulas {
 impl From<Result<Formula, Refusal>> for FoundFields {
     ghost from_gives = { λ answer given. given ≡ found answer };
 
+    // A refusal goes back at once: where the two cases met, the formula's fields would be copied once more.
     fn from(answer: Result<Formula, Refusal>) -> FoundFields {
         let formula = match answer {
             Ok(formula) => formula,

@@ -29,7 +29,7 @@ fn put_lines(page: &mut Page, s: &[u8], count: u16)
     }
 }
 
-// A listing has fewer characters: at most 15, and 41 for each of at most 64 formulas.
+// A listing has fewer than 4,096 characters: at most 15, and 41 for each of at most 64 formulas.
 fn put_listing(page: &mut Page, s: &[u8])
     requires { page.old.end + 4096 ≤ length page.old.out.now }
     ensures same_reference { page.new.out.ghost_name ≡ page.old.out.ghost_name }
