@@ -1,5 +1,5 @@
 #!/usr/bin/env bash
-# The library as C has it: the header's constants, and what ./install puts below a prefix.
+# The library as C has it: the header's constants, what the archive asks for from outside, and what ./install puts below a prefix.
 set -u
 cd "$(dirname "$0")/.." || exit 2
 . tests/lib.sh
@@ -9,6 +9,22 @@ version=$(sed -n 's/^#define VP_VERSION_STRING "\(.*\)"/\1/p' include/valvepigeo
 
 right 'the constants' link_c "$room/constants" tests/constants.c target/staticlib/libvalvepigeon.a
 right 'the constants' run_x86 "$room/constants"
+
+# All of the archive, linked without a C library: it asks for memcpy, and for nothing else.
+cat >"$room/memcpy.c" <<'C'
+#include <stddef.h>
+void *memcpy(void *to, const void *from, size_t n) {
+    for (size_t i = 0; i < n; i++) ((volatile char *)to)[i] = ((const char *)from)[i];
+    return to;
+}
+C
+bare() { # OBJECT...
+    "$tools/bin/ld.lld" -m elf_x86_64 -e vp_count -o "$room/bare" --whole-archive target/staticlib/libvalvepigeon.a --no-whole-archive "$@"
+}
+right 'memcpy' compile_c "$room/memcpy.o" "$room/memcpy.c"
+right 'the archive with memcpy alone' bare "$room/memcpy.o"
+wrong 'the archive without it' 1 'undefined symbol: memcpy' bare
+
 right './install' ./install "$prefix"
 right './install again' ./install "$prefix"
 for word in '' --loud; do wrong "./install '$word'" 2 'usage: ./install PREFIX' ./install "$word"; done
